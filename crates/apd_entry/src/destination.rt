@@ -53,11 +53,11 @@ pub(crate) fn beside<F: Tapes, O: Write + Drop>(
     match files.tape(path, capture.replaces) {
         Ok(tape) => {
             let recorder = Recorder::new(alloc, tape);
-            return Ok(Destination {
+            Ok(Destination {
                 lines: out,
                 capture: Some(InFile { recorder }),
-            });
+            })
         }
-        Err(_) => return Err(out),
+        Err(_) => Err(out),
     }
 }

@@ -131,9 +131,9 @@ where
     match beside(alloc, asked.capture, files, out) {
         Ok(out) => {
             let (out, status) = run_watched(rt, alloc, asked, files, out, messages);
-            return (out.lines, status);
+            (out.lines, status)
         }
-        Err(out) => return (out, complain(alloc, &ProgramFault::NoMemory, messages.err)),
+        Err(out) => (out, complain(alloc, &ProgramFault::NoMemory, messages.err)),
     }
 }
 
@@ -183,9 +183,9 @@ where
                 shown,
             };
             let (out, status) = run_live(rt, alloc, asked, files, streams, err);
-            return (out.lines, status);
+            (out.lines, status)
         }
-        Err(out) => return (out, complain(alloc, &ProgramFault::NoMemory, err)),
+        Err(out) => (out, complain(alloc, &ProgramFault::NoMemory, err)),
     }
 }
 
@@ -220,10 +220,10 @@ where
     let mut out = out;
     match read_words(alloc, words) {
         Ok(Request::Run(asked)) => {
-            return run_script(rt, alloc, asked, files, out, Messages { err, watched });
+            run_script(rt, alloc, asked, files, out, Messages { err, watched })
         }
         Ok(Request::Live(asked)) => {
-            return run_input(
+            run_input(
                 rt,
                 alloc,
                 asked,
@@ -235,20 +235,20 @@ where
                     shown,
                 },
                 err,
-            );
+            )
         }
         Ok(Request::Answer(query)) => {
             let posed = Posed { query, clock: rt };
             let status = respond(alloc, posed, files, &mut out, err);
-            return (out, status);
+            (out, status)
         }
         Ok(Request::Test(paths)) => {
             let status = judge_cases(alloc, paths.as_slice(), files, &mut out, err);
-            return (out, status);
+            (out, status)
         }
         Err(told) => {
             let status = tell(alloc, &told, &mut out, err);
-            return (out, status);
+            (out, status)
         }
     }
 }

@@ -147,7 +147,7 @@ where
         );
     }
     match Timed::start(rt, alloc, rt, input) {
-        Ok(input) => return live(
+        Ok(input) => live(
             rt,
             alloc,
             words,
@@ -160,6 +160,6 @@ where
             },
             err,
         ),
-        Err(_) => return (out, complain(alloc, &ProgramFault::NoMemory, err)),
+        Err(_) => (out, complain(alloc, &ProgramFault::NoMemory, err)),
     }
 }
