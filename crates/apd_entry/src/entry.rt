@@ -220,10 +220,10 @@ where
     let mut out = out;
     match read_words(alloc, words) {
         Ok(Request::Run(asked)) => {
-            run_script(rt, alloc, asked, files, out, Messages { err, watched })
+            return run_script(rt, alloc, asked, files, out, Messages { err, watched });
         }
         Ok(Request::Live(asked)) => {
-            run_input(
+            return run_input(
                 rt,
                 alloc,
                 asked,
@@ -235,20 +235,20 @@ where
                     shown,
                 },
                 err,
-            )
+            );
         }
         Ok(Request::Answer(query)) => {
             let posed = Posed { query, clock: rt };
             let status = respond(alloc, posed, files, &mut out, err);
-            (out, status)
+            return (out, status);
         }
         Ok(Request::Test(paths)) => {
             let status = judge_cases(alloc, paths.as_slice(), files, &mut out, err);
-            (out, status)
+            return (out, status);
         }
         Err(told) => {
             let status = tell(alloc, &told, &mut out, err);
-            (out, status)
+            return (out, status);
         }
     }
 }
