@@ -83,8 +83,8 @@ HoldsAdmitted hook bytes shapes limit o =
     (a : Verified) × (h : Hook) × (o ≡ Some (content.Code a)) × (hook ≡ number_of h) × IsAdmitted h bytes (map shape_of shapes) limit a
 
 -- with a limit of work, the budget is at most an 80th of it, since each of its steps is earned by a state that is examined
-abbrev pub IsEarned : Option ℕ → ℕ → Type 0
-IsEarned work budget = (most : ℕ) → work ≡ Some most → 80 * budget ≤ most
+abbrev pub IsWithinWork : Option ℕ → ℕ → Type 0
+IsWithinWork work budget = (most : ℕ) → work ≡ Some most → 80 * budget ≤ most
 
 -- the program that is held
 abbrev pub code_of : Option Content → Option Verified

@@ -5,7 +5,7 @@ ghost use Rattle.bpf_regions.specs.declared.hooks.Hook.{Hook as AHook};
 ghost use Rattle.bpf_regions.specs.Hooks.{number_of};
 ghost use Rattle.apd_c.specs.Held.{held};
 ghost use Rattle.apd_c.specs.Given.{IsAskable, IsHook, shape_of};
-ghost use Rattle.apd_c.specs.Code.{IsAdmitted, IsRefused, IsUnsafe, HoldsAdmitted, IsEarned, IsVerdict, budget_of, limit_of, work_limit};
+ghost use Rattle.apd_c.specs.Code.{IsAdmitted, IsRefused, IsUnsafe, HoldsAdmitted, IsWithinWork, IsVerdict, budget_of, limit_of, work_limit};
 ghost use Rattle.bpf_verifier.specs.Admission.{IsSafeBudget};
 
 use crate::answer::{Answer, NO_MEMORY, NOT_EMPTY, OUT_OF_LIMITS};
@@ -58,7 +58,7 @@ fn verified(
     ensures hook { IfOk result (λ accepted. accepted.hook ≡ hook) }
     ensures budget { IfOk result (λ accepted. IsSafeBudget program limits.states accepted.budget) }
     ensures refused { IfErr result (IsUnsafe program limits.states limits.work) }
-    ensures earned { IfOk result (λ accepted. IsEarned limits.work accepted.budget) }
+    ensures earned { IfOk result (λ accepted. IsWithinWork limits.work accepted.budget) }
 {
     match limits.work {
         None => verify_within(alloc, program, hook, limits.states),
@@ -77,7 +77,7 @@ fn admitted(
     ensures ok { IfOk result (IsAdmitted hook bytes.now shapes limits.states) }
     ensures err { IfErr result (IsRefused bytes.now shapes limits.states limits.work) }
     ensures some { IfErr result (λ e. e.number ≢ 0) }
-    ensures earned { IfOk result (λ accepted. IsEarned limits.work accepted.budget) }
+    ensures earned { IfOk result (λ accepted. IsWithinWork limits.work accepted.budget) }
 {
     match decode(alloc, bytes, shapes) {
         Err(fault) => Err(Answer {
@@ -107,7 +107,7 @@ fn asked(
     ensures some { IfErr result (λ e. e.number ≢ 0) }
     ensures within { OnOk result (IsAskable hook shapes.now) }
     ensures err { IfErr result (IsVerdict hook bytes.now shapes.now limits.states limits.work None) }
-    ensures earned { IfOk result (λ a. IsEarned limits.work a.budget) }
+    ensures earned { IfOk result (λ a. IsWithinWork limits.work a.budget) }
 {
     let Some(hook) = hook_of(hook) else {
         return Err(Answer::of(OUT_OF_LIMITS));
@@ -140,7 +140,7 @@ pub extern "C" fn apd_c_verify_limited(
     ensures admitted { result.number ≡ 0 →
         HoldsAdmitted hook bytes.now shapes.now (limit_of states) (held code.new) }
     ensures kept { result.number ≢ 0 → held code.new ≡ held code.old }
-    ensures earned { result.number ≡ 0 → IsEarned (work_limit work) (budget_of (held code.new)) }
+    ensures earned { result.number ≡ 0 → IsWithinWork (work_limit work) (budget_of (held code.new)) }
     ensures why { IsVerdict hook bytes.now shapes.now (limit_of states) (work_limit work)
         (held code.old) result }
 {

@@ -6,7 +6,7 @@ use Rattle.bpf_verifier.specs.Limits.{units_of}
 use Rattle.bpf_verifier.specs.Spent.{IsMemoryOrPassed, IsWithin}
 use Rattle.bpf_verifier.specs.declared.limit.Limits.{Limits}
 use Rattle.bpf_verifier.specs.declared.refusal.Refusal.{Refusal}
-use Rattle.apd_c.specs.Code.{IsEarned, IsUnsafe, IsMemoryOrWork}
+use Rattle.apd_c.specs.Code.{IsWithinWork, IsUnsafe, IsMemoryOrWork}
 use Rattle.apd_c.proofs.code.verified.Goals as goal
 
 -- without a limit of work only memory may be lacking
@@ -37,11 +37,11 @@ returns-in-Some-clause-refused c = limited c.args.program c.args.limits _ _ c.in
 free : (work : Option ℕ) (budget most : ℕ) → work ≡ None → work ≡ Some most → 80 * budget ≤ most
 free work budget most none some = absurd (cc)
 
-unbounded : (work : Option ℕ) (r : Result Verified Refusal) → work ≡ None → IfOk r (λ a. IsEarned work a.budget)
+unbounded : (work : Option ℕ) (r : Result Verified Refusal) → work ≡ None → IfOk r (λ a. IsWithinWork work a.budget)
 unbounded work (Ok a) none = λ most some. free work a.budget most none some
 unbounded work (Err e) none = tt
 
-earned : (limits : Limits) (r : Result Verified Refusal) → IfOk r (λ a. IsWithin limits a.budget) → IfOk r (λ a. IsEarned limits.work a.budget)
+earned : (limits : Limits) (r : Result Verified Refusal) → IfOk r (λ a. IsWithin limits a.budget) → IfOk r (λ a. IsWithinWork limits.work a.budget)
 earned limits (Ok a) h = λ most some. subst (λ (w : Option ℕ). 80 * a.budget ≤ units_of w) some h
 earned limits (Err e) h = h
 
