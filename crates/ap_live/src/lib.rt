@@ -15,8 +15,7 @@
 //! the outputs are the link's under these verdicts, entries of one history of the shard from the
 //! opening; only data of associated stations is passed up; each agreement's accepted numbers are
 //! passed up once each, in increasing order. A token's own entries are in that history (`known`);
-//! two tokens that meet share one. If there is one operator, it put all that a worker took
-//! (`meet_alone`).
+//! two tokens that meet share one.
 #![tactic(auto)]
 
 mod acting;
