@@ -1,6 +1,7 @@
 //! The frames of a capture as a script for the access point.
 //!
-//! Main call: `script_text`, for the packets that `capture` reads. It depends on `capture` and `hex`. The text is
+//! Main call: `script_text`, for the packets that `capture` reads; `ScriptRest` makes the same text piece by piece. It
+//! depends on `capture` and `hex`. The text is
 //! exactly what the definition in `specs/` says: a line for each frame, the time between frames in separate lines, a
 //! comment for each packet that is left out, with the reason, and a line `wait` after each 1000th packet. If an access
 //! point is named, frames that aren't for it are left out, and a comment at the end counts them. There are no other
@@ -10,4 +11,4 @@ mod lines;
 mod script;
 
 pub use chosen::{Bssid, Named, access_points};
-pub use script::{Manner, script_text, start, unit};
+pub use script::{Manner, ScriptRest, script_text, start, unit};

@@ -1,6 +1,6 @@
 //! The script of a capture.
 
-ghost use Rattle.std.specs.Prelude.{◌≡◌, ◌++◌, IfOk, map};
+ghost use Rattle.std.specs.Prelude.{◌≡◌, ◌+◌, ◌<◌, ◌++◌, ◌↔◌, IsTrue, IfOk, OnOk, length, map};
 ghost use Rattle.std.specs.String.{string_bytes};
 ghost use Rattle.capture.specs.Packets.{seen_of};
 ghost use Rattle.capture.specs.Radiotap.{bytes_in};
@@ -11,6 +11,7 @@ use crate::frames::chosen::{Bssid, count_others, is_kept};
 use crate::frames::lines::{append_others, append_packet, append_time, append_wait};
 use capture::{LeftOut, Packet};
 use std::alloc::{AllocError, Global};
+use std::marker::Model;
 
 /// The first known time, in nanoseconds; 0 if there is none.
 pub fn start(packets: &[Packet<'_>]) -> u64
@@ -106,4 +107,85 @@ pub fn script_text(
     let mut text = packets_text(alloc, packets, manner)?;
     append_others(&mut text, count_others(manner.bssid, packets))?;
     Ok(text)
+}
+
+/// The rest of a capture's script: the lines of the packets that are still to come, and the last comment.
+#[derive(Drop)]
+pub struct ScriptRest<'a> {
+    packets: &'a [Packet<'a>],
+    manner: Manner,
+    start: u64,
+    /// How many packets have come.
+    done: usize,
+    /// The latest unit so far.
+    clock: u64,
+    /// How many packets aren't kept.
+    others: usize,
+}
+
+impl<'a> Model for ScriptRest<'a> {
+    ghost use Rattle.std.specs.Prelude.{◌≤◌, ◌+◌, drop, length, map};
+    ghost use Rattle.capture.specs.Packets.{seen_of};
+    ghost use Rattle.apd_policies.specs.Script.{Rest, rest_from};
+
+    ghost Value = { Rest };
+
+    ghost view = { λ s. rest_from s.manner.ticks s.manner.bssid s.start (s.done + 1) s.clock (map seen_of (drop s.done s.packets.now)) s.others };
+
+    ghost invariant = { λ s. s.done ≤ length s.packets.now };
+}
+
+impl<'a> ScriptRest<'a> {
+    /// The whole script of these packets.
+    pub fn new(packets: &'a [Packet<'a>], manner: Manner) -> ScriptRest<'a>
+        ensures whole { result.bytes
+            ≡ script_of manner.ticks manner.bssid (map seen_of packets.entry.now) }
+    {
+        ScriptRest {
+            packets,
+            manner,
+            start: start(packets),
+            done: 0,
+            clock: 0,
+            others: count_others(manner.bssid, packets),
+        }
+    }
+
+    /// Whether packets are still to come.
+    pub fn has_packets(&self) -> bool
+        ensures is { IsTrue result ↔ (0 < self.now.packets) }
+    {
+        self.done < self.packets.len()
+    }
+
+    /// Moves the lines of the next packet to the end of a text.
+    pub fn append_next(&mut self, alloc: Global, text: &mut String) -> Result<(), AllocError>
+        requires some { 0 < self.old.packets }
+        ensures moved { OnOk result
+            (string_bytes text.new ++ self.new.bytes ≡ string_bytes text.old ++ self.old.bytes) }
+        ensures fewer { OnOk result (self.new.packets + 1 ≡ self.old.packets) }
+    {
+        let packet = self.packets[self.done];
+        let number = self.done as u64 + 1;
+        let arrival = Arrival {
+            number,
+            clock: self.clock,
+            now: unit(self.start, packet.time),
+        };
+        let clock = append_arrival(alloc, text, self.manner, arrival, packet.frame)?;
+        append_wait(text, number)?;
+        self.clock = clock;
+        self.done += 1;
+        Ok(())
+    }
+
+    /// Appends the last comment, once all packets have come.
+    pub fn append_end(&self, text: &mut String) -> Result<(), AllocError>
+        requires last { self.now.packets ≡ 0 }
+        ensures ok { OnOk result
+            (string_bytes text.new ≡ string_bytes text.old ++ self.now.bytes) }
+    {
+        append_others(text, self.others)?;
+        Ok(())
+    }
 }
