@@ -1,4 +1,4 @@
-pub mod Counting
 pub mod Drawn
 pub mod Either
 pub mod Naming
+pub mod Nexts

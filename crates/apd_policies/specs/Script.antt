@@ -93,3 +93,15 @@ start_of (packet ∷ packets) = time_or packet.time (start_of packets)
 abbrev pub script_of : Bool → Option (List ℕ) → List Seen → List ℕ
 script_of ticks bssid packets =
     lines_from ticks bssid (start_of packets) 1 0 packets ++ others_line (others bssid packets)
+
+-- what is left of a script: its bytes, and how many packets they are of
+pub record Rest : Type 0 where
+  pub bytes : List ℕ
+  pub packets : ℕ
+
+-- the lines of the packets from this number on, and the last comment, which counts those that aren't kept
+abbrev pub rest_from : Bool → Option (List ℕ) → ℕ → ℕ → ℕ → List Seen → ℕ → Rest
+rest_from ticks bssid start number clock packets others = record {
+  bytes = lines_from ticks bssid start number clock packets ++ others_line others;
+  packets = length packets;
+}

@@ -1,6 +1,8 @@
 -- Walks over the packets of a file, step by step.
 use Rattle.std.proofs.Common.{◌≡◌, ◌≤◌, ◌<◌, ◌⊎◌, ◌∙◌, ℕ, zero, suc, ◌+◌, ◌-◌, ◌==◌, nat_lt, Bool, true, false, if◌then◌else◌, List, [], ◌∷◌, ◌++◌, length, drop, Option, Some, None, Result, Ok, Err, inl, inr, refl, sym, ap, subst, append_assoc, append-nil, length-append, length-drop, arith}
 use Rattle.std.specs.Option.{option_map, option_to_list}
+use Rattle.std.specs.Result.{OnErr}
+use Rattle.std.specs.declared.alloc.AllocError.{AllocError}
 use Rattle.capture.specs.declared.fault.CaptureFault.{CaptureFault}
 use Rattle.capture.specs.declared.fault.CaptureFault.TheVariants.{NoMemory, BadBlock, Version}
 use Rattle.capture.specs.declared.form.Form.{Form}
@@ -257,3 +259,8 @@ taken left w v next packet same h is =
 pub skipped : (left : List Seen) (w v : BlockWalk) (next : Option Packet) → blocks_left w ≡ left → IsPassed w next v → next ≡ None → blocks_left v ≡ left
 skipped left w v next same h is =
     sym (sym same ∙ blocks_passed w v next h ∙ ap (λ (o : Option Packet). option_to_list (option_map seen_of o) ++ blocks_left v) is)
+
+-- what holds anyway holds after an error
+pub at_error : (r : Result (Option Packet) AllocError) (P : Type 0) → P → OnErr r P
+at_error (Ok next) P p = tt
+at_error (Err e) P p = p

@@ -1,6 +1,6 @@
 //! The packets of a pcapng file, one after another.
 
-ghost use Rattle.std.specs.Prelude.{◌≡◌, ◌≤◌, ◌<◌, ◌⊎◌, length, IfOk, IfErr};
+ghost use Rattle.std.specs.Prelude.{◌≡◌, ◌≤◌, ◌<◌, ◌⊎◌, [], length, IfOk, IfErr, OnErr};
 ghost use Rattle.std.specs.Option.{option_map};
 ghost use Rattle.capture.specs.Packets.{seen_of};
 ghost use Rattle.capture.specs.Sections.{IsFaulty, RefusesBlock};
@@ -62,6 +62,7 @@ impl<'a> BlockWalk<'a> {
         requires enough { length self.old.rest.now ≤ self.old.most }
         ensures next { IfOk result (λ next. IsNext (blocks_left self.old)
             (option_map seen_of next) (blocks_left self.new)) }
+        ensures over { OnErr result (blocks_left self.new ≡ []) }
         ensures within { length self.new.rest.now ≤ self.new.size }
         ensures enough { length self.new.rest.now ≤ self.new.most }
     {

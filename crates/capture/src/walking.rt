@@ -1,6 +1,6 @@
 //! The packets of a capture file, one after another, without a list of them.
 
-ghost use Rattle.std.specs.Prelude.{◌≡◌, ◌⊎◌, IfOk, IfErr};
+ghost use Rattle.std.specs.Prelude.{◌≡◌, ◌⊎◌, [], IfOk, IfErr, OnErr};
 ghost use Rattle.std.specs.Option.{option_map};
 ghost use Rattle.capture.specs.Packets.{seen_of};
 ghost use Rattle.capture.specs.Captures.{has_sections, Refuses};
@@ -61,10 +61,11 @@ impl<'a> Walk<'a> {
         }
     }
 
-    /// The next packet, if there is one. An error is lack of memory; nothing is known of the walk after that.
+    /// The next packet, if there is one. An error is lack of memory, and ends the walk.
     pub fn next(&mut self) -> Result<Option<Packet<'a>>, AllocError>
         ensures next { IfOk result
             (λ next. IsNext self.old (option_map seen_of next) self.new) }
+        ensures over { OnErr result (self.new ≡ []) }
     {
         match &mut self.way {
             Way::Nothing => return Ok(None),

@@ -1,11 +1,12 @@
 //! Which packets of a capture are for an access point.
 
-ghost use Rattle.std.specs.Prelude.{◌≡◌, ◌≤◌, map};
-ghost use Rattle.capture.specs.Packets.{seen_of};
+ghost use Rattle.std.specs.Prelude.{◌≡◌, ◌≤◌, IfOk, if◌then◌else◌};
+ghost use Rattle.capture.specs.Walks.{packets_in};
 ghost use Rattle.capture.specs.Radiotap.{bytes_in};
 ghost use Rattle.apd_policies.specs.Chosen.{octet, address_at, type_of, is_response, is_to, is_for, is_kept, others, individual, data_point, management_point, point_of, point_in, points_of, named_with, AreNamed};
 
-use capture::{LeftOut, Packet};
+use capture::{LeftOut, Recording};
+use std::alloc::{AllocError, Global};
 
 /// The address of an access point.
 pub type Bssid = [u8; 6];
@@ -89,14 +90,28 @@ pub(crate) fn is_kept(bssid: Option<Bssid>, frame: Result<&[u8], LeftOut>) -> bo
     }
 }
 
-/// How many packets aren't kept.
-pub(crate) fn count_others(bssid: Option<Bssid>, packets: &[Packet<'_>]) -> usize
-    ensures is { result ≡ others bssid (map seen_of packets.now) }
+/// 1 for a packet that isn't kept, otherwise 0.
+fn unkept(bssid: Option<Bssid>, frame: Result<&[u8], LeftOut>) -> usize
+    ensures is { result ≡ (if is_kept bssid (bytes_in frame.entry) then 0 else 1) }
 {
-    packets
-        .iter()
-        .filter(|packet| !is_kept(bssid, packet.frame))
-        .count()
+    if is_kept(bssid, frame) { 0 } else { 1 }
+}
+
+/// How many packets of a capture aren't kept.
+pub(crate) fn count_others(
+    alloc: Global,
+    bssid: Option<Bssid>,
+    recording: Recording<'_>,
+) -> Result<usize, AllocError>
+    ensures is { IfOk result
+        (λ count. count ≡ others bssid (packets_in recording.entry.bytes.now)) }
+{
+    let mut walk = recording.walk(alloc);
+    let mut count = 0;
+    while let Some(packet) = walk.next()? {
+        count += unkept(bssid, packet.frame);
+    }
+    Ok(count)
 }
 
 /// The address, if it is that of one station.
@@ -171,13 +186,14 @@ impl Named {
     }
 }
 
-/// The access points that packets name.
-pub fn access_points(packets: &[Packet<'_>]) -> Named
-    ensures is { AreNamed (points_of (map seen_of packets.now)) result }
+/// The access points that the packets of a capture name.
+pub fn access_points(alloc: Global, recording: Recording<'_>) -> Result<Named, AllocError>
+    ensures is { IfOk result (AreNamed (points_of (packets_in recording.entry.bytes.now))) }
 {
+    let mut walk = recording.walk(alloc);
     let mut named = Named::NoOne;
-    for packet in packets {
+    while let Some(packet) = walk.next()? {
         named = named.with(point_in(packet.frame));
     }
-    named
+    Ok(named)
 }

@@ -2,7 +2,7 @@ use Rattle.std.proofs.Common.{◌≡◌, ◌∙◌, length, sym, ap, arith}
 use Rattle.std.proofs.lemmas.Bool.Decides.{nat_tests}
 use Rattle.std.proofs.lemmas.Result.{IfOk-weaker}
 use Rattle.capture.specs.Walking.{section_of, blocks_left}
-use Rattle.capture.proofs.Stepping.{blocks_none, taken, skipped, IsNext-fault}
+use Rattle.capture.proofs.Stepping.{at_error, blocks_none, taken, skipped, IsNext-fault}
 use Rattle.capture.proofs.block_walk.BlockWalk.next.Goals as goal
 
 pub returns-in-Some-clause-next : goal.returns-in-Some-clause-next
@@ -29,6 +29,7 @@ returns-in-Err c =
     let none : length c.split_at.result.0.now ≡ 0 = ap length c.split_at.ensures.front in
     record {
       next = IfOk-weaker c.end_at.result _ _ (λ next h. IsNext-fault (blocks_left c.args.self.now) c.loop-self.self c.in-Err.fault _ _ _ _ next c.loop-self.invariant.same c.in-Err.ensures.fault none h) c.end_at.ensures.end;
+      over = at_error c.end_at.result _ (blocks_none _ _ _ _ none);
       within = omega (arith, none);
       enough = omega (arith, none);
     }
