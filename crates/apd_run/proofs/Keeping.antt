@@ -1,12 +1,13 @@
 -- What changes of tokens and of loads preserve.
-use Rattle.std.proofs.Common.{◌≡◌, ℕ, List, [], sym, ap, subst, ◌∙◌}
+use Rattle.std.proofs.Common.{◌≡◌, ◌<◌, ℕ, List, [], sym, ap, subst, ◌∙◌}
 use Rattle.ap_model.specs.Readings.{Config}
 use Rattle.ap_books.specs.Counts.{none}
 use Rattle.ap_books.specs.Holdings.{Holding, HasParts, sum_of}
-use Rattle.ap_shards.specs.Tokens.{Eight, holding_of}
+use Rattle.ap_shards.specs.Tokens.{Eight, KeepOwn, holding_of}
 use Rattle.ap_live.specs.Counting.{counted_by}
 use Rattle.ap_live.specs.Serving.{Served}
 use Rattle.ap_live.specs.Tokens.{Operator, IsOperator, Worker, IsWorker}
+use Rattle.ap_live.specs.Upholding.{token_at}
 use Rattle.ap_live.specs.declared.tagged.Tagged.{Tagged}
 use Rattle.logbook.specs.Pages.{Book}
 use Rattle.versions.specs.Lists.{Beginning}
@@ -14,6 +15,7 @@ use Rattle.hook_judge.specs.Sums.{no_counts}
 use Rattle.apd_run.specs.InForce.{AreInForce}
 use Rattle.apd_run.specs.declared.access.program_counts.ProgramCounts.{ProgramCounts}
 use Rattle.apd_run.specs.Hands.{RunOperator, IsRunOperator, RunWorker, IsRunWorker}
+use Rattle.apd_run.proofs.Deciding.{accounts_more, accounts_none, accounts_same, kept_own}
 use Rattle.apd_run.proofs.Served.{more_counted, nothing_counted}
 use Rattle.apd_run.proofs.Sums.{keeps_parts}
 
@@ -57,16 +59,17 @@ other_loads shares list o f b programs same in_force h =
 abbrev pub uncounted : Worker → Worker
 uncounted w = record w { held = record w.held { counts = no_counts } }
 
--- a worker whose token has other parts of the ledgers, one of each, which have counted nothing, and no counts of its
--- programs' runs
+-- a worker whose token has other parts of the ledgers, one of each, which have counted nothing, no counts of its programs'
+-- runs, and no entries of its own
 pub other_parts : (list : Book) (w : RunWorker) (t : Worker) (fresh : Holding) (handled : List Tagged) → t ≡ record (uncounted w.token) { shards = t.shards } → holding_of t.shards ≡ fresh
-    → HasParts 1 fresh → sum_of fresh ≡ none → handled ≡ [] → IsRunWorker list w → IsRunWorker list (record w { token = t; handled = handled })
-other_parts list w t fresh handled same taken one nothing empty h =
+    → HasParts 1 fresh → sum_of fresh ≡ none → handled ≡ [] → ((s : ℕ) → s < 8 → (token_at s t.shards).own ≡ []) → IsRunWorker list w → IsRunWorker list (record w { token = t; handled = handled })
+other_parts list w t fresh handled same taken one nothing empty unowned h =
     record {
       own = subst (IsWorker w.ap) (sym same) (record { number = h.own.number; pass = h.own.pass; list = h.own.list; fitting = h.own.fitting });
       list_is = h.list_is;
       parts = subst (HasParts 1) (sym taken) one;
       counts = nothing_counted _ _ (ap sum_of taken ∙ nothing) empty;
+      accounts = accounts_none t handled empty unowned;
     }
 
 -- a worker whose token has the same parts of the ledgers
@@ -77,6 +80,7 @@ same_parts list w t own same h =
       list_is = h.list_is;
       parts = subst (λ (e : Eight). HasParts 1 (holding_of e)) (sym same) h.parts;
       counts = ap counted_by same ∙ h.counts;
+      accounts = accounts_same w.token t w.handled (λ s low. ap (λ (e : Eight). (token_at s e).own) same) h.accounts;
     }
 
 -- a worker that served
@@ -88,4 +92,50 @@ served_worker config list w t handled own served h =
       list_is = h.list_is;
       parts = keeps_parts 1 w.token.shards t.shards served.parts h.parts;
       counts = more_counted _ _ _ _ served.tags h.counts served.listed served.counted;
+      accounts = accounts_more config w.ap w.token t w.handled handled served h.accounts;
+    }
+
+-- ---- tokens that met
+
+-- the same parts of the ledgers, which have counted the same
+kept_holding : (a b : Eight) → KeepOwn a b → holding_of b ≡ holding_of a
+kept_holding a b k i =
+    record {
+      of0 = k.0.portion i;
+      of1 = k.1.portion i;
+      of2 = k.2.portion i;
+      of3 = k.3.portion i;
+      of4 = k.4.portion i;
+      of5 = k.5.portion i;
+      of6 = k.6.portion i;
+      of7 = k.7.portion i;
+    }
+
+-- an operator that may have seen more
+pub met_operator : {F : Type 0} → (shares : ℕ) (list : Book) (o : RunOperator F) (t : Operator) → t ≡ record o.token { shards = t.shards } → KeepOwn o.token.shards t.shards → IsRunOperator shares list o
+    → IsRunOperator shares list (record o { token = t })
+met_operator shares list o t same k h =
+    record {
+      own = subst (IsOperator o.ap) (sym same) (record { lines = h.own.lines; seats = h.own.seats });
+      mine = subst (HasParts 1) (sym (kept_holding o.token.shards t.shards k)) h.mine;
+      nothing = ap sum_of (kept_holding o.token.shards t.shards k) ∙ h.nothing;
+      parts = h.parts;
+      pages = h.pages;
+      all = h.all;
+      shares_are = h.shares_are;
+      some = h.some;
+      list_is = h.list_is;
+      reads = h.reads;
+      in_force = h.in_force;
+    }
+
+-- a worker that may have seen more
+pub met_worker : (list : Book) (w : RunWorker) (t : Worker) → t ≡ record w.token { shards = t.shards } → KeepOwn w.token.shards t.shards → IsRunWorker list w → IsRunWorker list (record w { token = t })
+met_worker list w t same k h =
+    record {
+      own = subst (IsWorker w.ap) (sym same) (record { number = h.own.number; pass = h.own.pass; list = h.own.list; fitting = h.own.fitting });
+      list_is = h.list_is;
+      parts = subst (HasParts 1) (sym (kept_holding w.token.shards t.shards k)) h.parts;
+      counts = ap sum_of (kept_holding w.token.shards t.shards k) ∙ h.counts;
+      accounts = accounts_same w.token t w.handled (kept_own w.token.shards t.shards k) h.accounts;
     }

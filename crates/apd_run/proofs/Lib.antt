@@ -2,6 +2,8 @@ pub mod KeptCode
 pub mod Putting
 pub mod Sums
 pub mod Served
+pub mod Judging
+pub mod Deciding
 pub mod Keeping
 pub mod Operated
 pub mod NewRuns

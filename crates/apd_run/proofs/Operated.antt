@@ -14,6 +14,7 @@ use Rattle.ap_queues.specs.Putting as queue
 use Rattle.ap_queues.specs.Refusing.{StopsAt}
 use Rattle.ap_queues.specs.declared.lines.fault.Unserved.{Unserved}
 use Rattle.ap_queues.specs.declared.queue.EventQueue.{EventQueue}
+use Rattle.ap_shards.specs.Tokens.{Eight, KeepOwn}
 use Rattle.ap_live.specs.Tokens.{Operator}
 use Rattle.apd_script.specs.Asked.{Load, Adopt, Unload}
 use Rattle.apd_driver.specs.declared.reports.report.Told.{Told}
@@ -27,8 +28,10 @@ use Rattle.apd_run.specs.Adopting.{AdoptsFiles}
 use Rattle.apd_run.specs.Hands.{RunOperator, crew_of, work_of}
 use Rattle.apd_run.specs.Loading.{LoadsFile}
 use Rattle.apd_files.specs.Held.{Held, path_of}
-use Rattle.apd_run.specs.Work.{Does, Work, live, with_loads}
+use Rattle.apd_run.specs.Deciding.{histories_of}
+use Rattle.apd_run.specs.Work.{Does, Sees, Work, live, with_loads}
 use Rattle.apd_run.specs.Work as work
+use Rattle.apd_run.proofs.Deciding.{kept_seen}
 
 -- ---- events
 
@@ -67,75 +70,77 @@ no_such_shard e units shard tick high c =
 
 module _ {F : Type 0} (held : F → Held) where
   -- the same of an operator
-  pub put_work : (o old : RunOperator F) (t m : Operator) (line : ℕ) (e : Event) (first n to : ℕ) → o ≡ old → m ≡ o.token → puts_of t.lines ≡ served (puts_of m.lines) line e first n → first + n ≡ to
+  pub put_work : (o old : RunOperator F) (t m : Operator) (line : ℕ) (e : Event) (first n to : ℕ) → o ≡ old → m ≡ o.token → t.shards ≡ m.shards → puts_of t.lines ≡ served (puts_of m.lines) line e first n → first + n ≡ to
       → PutsFrom live line e first (work_of held old) to (work_of held (record o { token = t }))
-  put_work o old t m line e first n to is token put end =
+  put_work o old t m line e first n to is token still put end =
+      let shards : t.shards ≡ o.token.shards = still ∙ ap (λ (x : Operator). x.shards) token in
       let more : puts_of t.lines ≡ served (puts_of o.token.lines) line e first n = put ∙ ap (λ (x : Operator). served (puts_of x.lines) line e first n) token in
       subst (λ (x : RunOperator F). PutsFrom live line e first (work_of held x) to (work_of held (record o { token = t }))) is
       (subst (λ (k : ℕ). PutsFrom live line e first (work_of held o) k (work_of held (record o { token = t }))) end
-      (subst (λ (ps : List (List Item)). PutsFrom live line e first (work_of held o) (first + n) (record (work_of held o) { puts = ps })) (sym more) (put_some (work_of held o) line e first n)))
+      (subst (λ (x : Eight). PutsFrom live line e first (work_of held o) (first + n) (record (work_of held o) { puts = puts_of t.lines; histories = histories_of x })) (sym shards)
+      (subst (λ (ps : List (List Item)). PutsFrom live line e first (work_of held o) (first + n) (record (work_of held o) { puts = ps })) (sym more) (put_some (work_of held o) line e first n))))
 
   -- it was put at all that it concerns
-  pub put_all : (o old : RunOperator F) (t m : Operator) (line : ℕ) (e : Event) → o ≡ old → m ≡ o.token → puts_of t.lines ≡ served (puts_of m.lines) line e (queue.first_shard e) (shard_count e)
+  pub put_all : (o old : RunOperator F) (t m : Operator) (line : ℕ) (e : Event) → o ≡ old → m ≡ o.token → t.shards ≡ m.shards → puts_of t.lines ≡ served (puts_of m.lines) line e (queue.first_shard e) (shard_count e)
       → PutsAll live line e (work_of held old) (work_of held (record o { token = t }))
-  put_all o old t m line e is token put =
+  put_all o old t m line e is token still put =
       subst (λ (k : ℕ). PutsFrom live line e k (work_of held old) (shard_end e) (work_of held (record o { token = t }))) (same_first e)
-      (put_work o old t m line e (queue.first_shard e) (shard_count e) (shard_end e) is token put (ap (λ (k : ℕ). k + shard_count e) (same_first e) ∙ same_end e))
+      (put_work o old t m line e (queue.first_shard e) (shard_count e) (shard_end e) is token still put (ap (λ (k : ℕ). k + shard_count e) (same_first e) ∙ same_end e))
 
   -- a tick was put from a shard on
-  pub put_tick : (o old : RunOperator F) (t m : Operator) (line units shard : ℕ) (e : Event) → o ≡ old → m ≡ o.token → shard < 8 → e ≡ event.Tick units
+  pub put_tick : (o old : RunOperator F) (t m : Operator) (line units shard : ℕ) (e : Event) → o ≡ old → m ≡ o.token → t.shards ≡ m.shards → shard < 8 → e ≡ event.Tick units
       → puts_of t.lines ≡ served (puts_of m.lines) line (event.Tick units) shard (8 - shard) → PutsFrom live line e shard (work_of held old) (shard_end e) (work_of held (record o { token = t }))
-  put_tick o old t m line units shard e is token below tick put =
+  put_tick o old t m line units shard e is token still below tick put =
       let all : shard + (8 - shard) ≡ 8 = omega (arith, below) in
       subst (λ (x : Event). PutsFrom live line x shard (work_of held old) (shard_end x) (work_of held (record o { token = t }))) (sym tick)
-      (put_work o old t m line (event.Tick units) shard (8 - shard) 8 is token put all)
+      (put_work o old t m line (event.Tick units) shard (8 - shard) 8 is token still put all)
 
   -- another event was put at its shard
-  pub put_there : (o old : RunOperator F) (t m : Operator) (line : ℕ) (e : Event) (shard : ℕ) → o ≡ old → m ≡ o.token → first_shard e ≡ shard
+  pub put_there : (o old : RunOperator F) (t m : Operator) (line : ℕ) (e : Event) (shard : ℕ) → o ≡ old → m ≡ o.token → t.shards ≡ m.shards → first_shard e ≡ shard
       → puts_of t.lines ≡ served (puts_of m.lines) line e (queue.first_shard e) (shard_count e) → PutsFrom live line e shard (work_of held old) (shard_end e) (work_of held (record o { token = t }))
-  put_there o old t m line e shard is token there put =
-      subst (λ (k : ℕ). PutsFrom live line e k (work_of held old) (shard_end e) (work_of held (record o { token = t }))) there (put_all o old t m line e is token put)
+  put_there o old t m line e shard is token still there put =
+      subst (λ (k : ℕ). PutsFrom live line e k (work_of held old) (shard_end e) (work_of held (record o { token = t }))) there (put_all o old t m line e is token still put)
 
   -- and waits at another
-  pub waits_work : (queues : List EventQueue) (o old : RunOperator F) (t m : Operator) (line : ℕ) (e : Event) (first count : ℕ) (u : Unserved) (w : Waiting) → o ≡ old → m ≡ o.token
+  pub waits_work : (queues : List EventQueue) (o old : RunOperator F) (t m : Operator) (line : ℕ) (e : Event) (first count : ℕ) (u : Unserved) (w : Waiting) → o ≡ old → m ≡ o.token → t.shards ≡ m.shards
       → StopsAt queues m.lines t.lines line e first count u → first_shard e ≤ first → first + count ≡ shard_end e → w ≡ record { event = u.event; shard = u.shard }
       → WaitsAt live line e first (work_of held old) (work_of held (record o { token = t })) w
-  waits_work queues o old t m line e first count u w is token h low end back =
+  waits_work queues o old t m line e first count u w is token still h low end back =
       let from : first ≤ u.shard = h.first_is in
       let within : u.shard < first + count = h.within in
       let upto : first + (u.shard - first) ≡ u.shard = omega (arith, from) in
       let waits : WaitsAt live line e first (work_of held old) (work_of held (record o { token = t })) (record { event = u.event; shard = u.shard }) = record {
         event = h.event;
         concerned = record { first_is = omega (arith, low, from); within = subst (λ (n : ℕ). u.shard < n) end within };
-        before = put_work o old t m line e first (u.shard - first) u.shard is token h.before upto;
+        before = put_work o old t m line e first (u.shard - first) u.shard is token still h.before upto;
       } in
       subst (λ (x : Waiting). WaitsAt live line e first (work_of held old) (work_of held (record o { token = t })) x) (sym back) waits
 
   -- the same after all that it concerns
-  pub waits_all : (queues : List EventQueue) (o old : RunOperator F) (t m : Operator) (line : ℕ) (e : Event) (u : Unserved) (w : Waiting) → o ≡ old → m ≡ o.token
+  pub waits_all : (queues : List EventQueue) (o old : RunOperator F) (t m : Operator) (line : ℕ) (e : Event) (u : Unserved) (w : Waiting) → o ≡ old → m ≡ o.token → t.shards ≡ m.shards
       → StopsAt queues m.lines t.lines line e (queue.first_shard e) (shard_count e) u → w ≡ record { event = u.event; shard = u.shard }
       → WaitsAt live line e (first_shard e) (work_of held old) (work_of held (record o { token = t })) w
-  waits_all queues o old t m line e u w is token h back =
+  waits_all queues o old t m line e u w is token still h back =
       let low : first_shard e ≤ queue.first_shard e = omega (arith, same_first e) in
       subst (λ (k : ℕ). WaitsAt live line e k (work_of held old) (work_of held (record o { token = t })) w) (same_first e)
-      (waits_work queues o old t m line e (queue.first_shard e) (shard_count e) u w is token h low (ap (λ (k : ℕ). k + shard_count e) (same_first e) ∙ same_end e) back)
+      (waits_work queues o old t m line e (queue.first_shard e) (shard_count e) u w is token still h low (ap (λ (k : ℕ). k + shard_count e) (same_first e) ∙ same_end e) back)
 
   -- a tick waits at another shard
-  pub waits_tick : (queues : List EventQueue) (o old : RunOperator F) (t m : Operator) (line units shard : ℕ) (e : Event) (u : Unserved) (w : Waiting) → o ≡ old → m ≡ o.token → shard < 8 → e ≡ event.Tick units
+  pub waits_tick : (queues : List EventQueue) (o old : RunOperator F) (t m : Operator) (line units shard : ℕ) (e : Event) (u : Unserved) (w : Waiting) → o ≡ old → m ≡ o.token → t.shards ≡ m.shards → shard < 8 → e ≡ event.Tick units
       → StopsAt queues m.lines t.lines line (event.Tick units) shard (8 - shard) u → w ≡ record { event = u.event; shard = u.shard }
       → WaitsAt live line e shard (work_of held old) (work_of held (record o { token = t })) w
-  waits_tick queues o old t m line units shard e u w is token below tick h back =
+  waits_tick queues o old t m line units shard e u w is token still below tick h back =
       let all : shard + (8 - shard) ≡ 8 = omega (arith, below) in
       let low : 0 ≤ shard = omega arith in
       subst (λ (x : Event). WaitsAt live line x shard (work_of held old) (work_of held (record o { token = t })) w) (sym tick)
-      (waits_work queues o old t m line (event.Tick units) shard (8 - shard) u w is token h low all back)
+      (waits_work queues o old t m line (event.Tick units) shard (8 - shard) u w is token still h low all back)
 
   -- another event waits at its shard
-  pub waits_there : (queues : List EventQueue) (o old : RunOperator F) (t m : Operator) (line : ℕ) (e : Event) (shard : ℕ) (u : Unserved) (w : Waiting) → o ≡ old → m ≡ o.token → first_shard e ≡ shard
+  pub waits_there : (queues : List EventQueue) (o old : RunOperator F) (t m : Operator) (line : ℕ) (e : Event) (shard : ℕ) (u : Unserved) (w : Waiting) → o ≡ old → m ≡ o.token → t.shards ≡ m.shards → first_shard e ≡ shard
       → StopsAt queues m.lines t.lines line e (queue.first_shard e) (shard_count e) u → w ≡ record { event = u.event; shard = u.shard }
       → WaitsAt live line e shard (work_of held old) (work_of held (record o { token = t })) w
-  waits_there queues o old t m line e shard u w is token there h back =
-      subst (λ (k : ℕ). WaitsAt live line e k (work_of held old) (work_of held (record o { token = t })) w) there (waits_all queues o old t m line e u w is token h back)
+  waits_there queues o old t m line e shard u w is token still there h back =
+      subst (λ (k : ℕ). WaitsAt live line e k (work_of held old) (work_of held (record o { token = t })) w) there (waits_all queues o old t m line e u w is token still h back)
 
   -- ---- loads
 
@@ -176,11 +181,26 @@ module _ {F : Type 0} (held : F → Held) where
   pub works : (o old : RunOperator F) (w : Work) → o ≡ old → with_work (crew_of held o) w ≡ with_work (crew_of held old) w
   works o old w is = ap (λ (x : RunOperator F). with_work (crew_of held x) w) is
 
-  -- a token that has put nothing more
-  pub same_lines : (o old : RunOperator F) (t m : Operator) → o ≡ old → m ≡ o.token → t.lines ≡ m.lines → crew_of held (record o { token = t }) ≡ crew_of held old
-  same_lines o old t m is token same =
+  -- a token that has put nothing more, and seen nothing more
+  pub same_lines : (o old : RunOperator F) (t m : Operator) → o ≡ old → m ≡ o.token → t.lines ≡ m.lines → t.shards ≡ m.shards → crew_of held (record o { token = t }) ≡ crew_of held old
+  same_lines o old t m is token same still =
       let put : puts_of t.lines ≡ puts_of o.token.lines = ap puts_of (same ∙ ap (λ (x : Operator). x.lines) token) in
-      (λ i. record { workers = o.workers; counted = sum_of o.hoard; work = record { files = held o.files; limits = o.limits; puts = put i; loads = o.loads } }) ∙ ap (crew_of held) is
+      let shards : t.shards ≡ o.token.shards = still ∙ ap (λ (x : Operator). x.shards) token in
+      (λ i. record {
+        workers = o.workers;
+        counted = sum_of o.hoard;
+        work = record { files = held o.files; limits = o.limits; config = o.config; puts = put i; histories = histories_of (shards i); loads = o.loads };
+      }) ∙ ap (crew_of held) is
+
+  -- a token that has put nothing more, and may have seen more
+  pub sees_more : (o old : RunOperator F) (t m : Operator) → o ≡ old → m ≡ o.token → t ≡ record m { shards = t.shards } → KeepOwn m.shards t.shards → Sees (work_of held old) (work_of held (record o { token = t }))
+  sees_more o old t m is token same keeps =
+      let put : puts_of t.lines ≡ puts_of o.token.lines = ap (λ (x : Operator). puts_of x.lines) (same ∙ ap (λ (x : Operator). record x { shards = t.shards }) token) in
+      subst (λ (x : RunOperator F). Sees (work_of held x) (work_of held (record o { token = t }))) is
+      (record {
+        others = λ i. record { files = held o.files; limits = o.limits; config = o.config; puts = put i; histories = histories_of t.shards; loads = o.loads };
+        go_on = kept_seen o.token.shards t.shards (subst (λ (x : Operator). KeepOwn x.shards t.shards) token keeps);
+      })
 
   -- loads that were told
   pub told_crew : (o old : RunOperator F) (b : Beginning) → o ≡ old → b ≡ o.loads → crew_of held (record o { loads = b }) ≡ crew_of held old

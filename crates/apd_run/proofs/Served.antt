@@ -1,5 +1,5 @@
 -- Reports on a worker's list.
-use Rattle.std.proofs.Common.{◌≡◌, ℕ, List, [], ◌∷◌, ◌++◌, refl, sym, ap, ◌∙◌, zero-add}
+use Rattle.std.proofs.Common.{◌≡◌, ℕ, List, [], ◌∷◌, ◌++◌, refl, sym, ap, subst, ◌∙◌, zero-add}
 use Rattle.std.specs.Prelude.{true, false, None}
 use Rattle.std.proofs.lemmas.List.Sums.{sum_by-append}
 use Rattle.ap_model.specs.declared.event.Event.{Event}
@@ -7,12 +7,16 @@ use Rattle.ap_books.specs.Counts.{Counts, none, plus}
 use Rattle.ap_live.specs.Counting.{fate_counts, tally}
 use Rattle.ap_shards.specs.declared.fate.Fate.{Fate}
 use Rattle.ap_shards.specs.declared.fate.Fate.TheVariants.{Decided, Refused, NotHandled}
+use Rattle.ap_live.specs.Tokens.{Worker}
+use Rattle.ap_live.specs.Upholding.{token_at}
 use Rattle.ap_live.specs.declared.tagged.Tagged.{Tagged}
-use Rattle.apd_driver.specs.Crews.{Collects, Crew, gains}
-use Rattle.apd_driver.specs.Semantics.{Semantics}
+use Rattle.apd_driver.specs.Crews.{Collects, Crew, Works, gains, with_work}
+use Rattle.apd_driver.specs.Following.{FromNone, FromOneMore, TakesAll}
+use Rattle.apd_run.specs.Deciding.{Accounts}
 use Rattle.apd_run.specs.Reports.{Handled, Memory, Report}
 use Rattle.apd_driver.specs.Tallies.{report_counts, tallied, told_counts}
 use Rattle.apd_run.specs.Telling.{dropped_in, report_if, reports_in, reports_of, told_of}
+use Rattle.apd_run.specs.Work.{Meets, Takes, Work, live}
 use Rattle.apd_run.proofs.Sums.{none_plus, plus_three}
 
 -- ---- what reports count
@@ -53,13 +57,26 @@ told_counted (t ∷ ts) =
     tallied_two (reports_of t) (reports_in ts)
     ∙ (ap (λ (c : Counts). plus c (tallied (reports_in ts))) (report_counted t.item.call t.item.shard t.item.event t.fate) ∙ ap (λ (c : Counts). plus (fate_counts t.fate) c) (told_counted ts))
 
--- a worker came back, and the reports on its list were appended
-pub collects_told : {s : Semantics} → (crew crew2 : Crew s) (list list2 : List Report) (tags : List Tagged) → list2 ≡ list ++ reports_in tags → crew2 ≡ gains crew (tally tags) → Collects crew crew2 list list2
-collects_told crew crew2 list list2 tags listed counted =
+-- a worker was met and came back, and the reports on its list were appended
+pub collects_met : (crew mid crew2 : Crew live) (list list2 : List Report) (w : Worker) (tags : List Tagged) → Works crew mid → Meets crew.work mid.work w → Accounts w tags → crew2 ≡ gains mid (tally tags)
+    → list2 ≡ list ++ reports_in tags → Collects crew crew2 list list2
+collects_met crew mid crew2 list list2 w tags works m h counted listed =
+    let same : crew2.work ≡ mid.work = ap (λ (c : Crew live). c.work) counted in
+    let takes : Takes crew.work mid.work (reports_in tags) = record {
+      events = tags;
+      told = refl;
+      concern = h.told;
+      decided = λ s low. record { entries = (token_at s w.shards).own; deeds = h.deeds s low; judged = h.judged s low; among = m.among s low };
+      holds = m.holds;
+      sees = m.sees;
+    } in
     record {
       reports = reports_in tags;
       listed = listed;
-      counted = counted ∙ ap (λ (c : Counts). gains crew c) (sym (told_counted tags));
+      taken = subst (λ (x : Work). TakesAll live crew.work x (reports_in tags)) (sym same) (FromOneMore crew.work mid.work [] (reports_in tags) FromNone takes);
+      counted = counted
+          ∙ (ap (λ (c : Crew live). gains c (tally tags)) works
+          ∙ (ap (λ (x : Work). with_work (gains crew (tally tags)) x) (sym same) ∙ ap (λ (c : Counts). with_work (gains crew c) crew2.work) (sym (told_counted tags))));
     }
 
 -- ---- what workers counted

@@ -1,5 +1,5 @@
 -- Giving out the tokens of a run.
-use Rattle.std.specs.Prelude.{◌≡◌, ◌+◌, ◌≤◌, ℕ, List, length}
+use Rattle.std.specs.Prelude.{◌≡◌, ◌+◌, ◌<◌, ◌≤◌, ℕ, List, [], length}
 use Rattle.std.specs.List.{All}
 use Rattle.ap_books.specs.Counts.{none}
 use Rattle.ap_books.specs.Holdings.{Holding, HasParts, sum_of}
@@ -9,6 +9,7 @@ use Rattle.ap_live.specs.Counting.{counted_by}
 use Rattle.ap_live.specs.Lives.{Live}
 use Rattle.ap_live.specs.Opening.{parts_in_all}
 use Rattle.ap_live.specs.Tokens.{Operator, IsOperator, Worker, IsWorker}
+use Rattle.ap_live.specs.Upholding.{token_at}
 
 -- an operator's token with one part of each ledger, which has counted nothing, and has put nothing into any queue
 pub record IsNewOperator (a : Live) (o : Operator) : Type 0 where
@@ -17,10 +18,11 @@ pub record IsNewOperator (a : Live) (o : Operator) : Type 0 where
   pub parts : HasParts 1 (holding_of o.shards)
   pub nothing : counted_by o.shards ≡ none
 
--- a worker's token with one part of each ledger, which has counted nothing
+-- a worker's token with one part of each ledger, which has counted nothing, and no entries of its own
 pub record IsNewWorker (w : Worker) : Type 0 where
   pub parts : HasParts 1 (holding_of w.shards)
   pub nothing : counted_by w.shards ≡ none
+  pub unowned : (s : ℕ) → s < 8 → (token_at s w.shards).own ≡ []
 
 -- new tokens of an operator and of at most 8 workers, and all other parts of the ledgers; nothing has been counted
 pub record AreHands (a : Live) (operator : Operator) (workers : List Worker) (hoard : Holding)

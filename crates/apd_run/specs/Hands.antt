@@ -1,5 +1,6 @@
 -- The operator and the workers of a run.
 use Rattle.std.specs.Prelude.{◌≡◌, ◌+◌, ◌<◌, ℕ, List}
+use Rattle.ap_model.specs.Readings.{Config}
 use Rattle.ap_books.specs.Counts.{none}
 use Rattle.ap_books.specs.Holdings.{Holding, HasParts, sum_of}
 use Rattle.ap_books.specs.Reading.{Reads}
@@ -18,6 +19,7 @@ use Rattle.ap_queues.specs.Lines.{puts_of}
 use Rattle.apd_driver.specs.Crews.{Crew}
 use Rattle.apd_files.specs.Held.{Held}
 use Rattle.bpf_verifier.specs.declared.limit.Limits.{Limits}
+use Rattle.apd_run.specs.Deciding.{Accounts, histories_of}
 use Rattle.apd_run.specs.Work.{Work, live}
 use Rattle.apd_run.specs.declared.access.program_counts.ProgramCounts.{ProgramCounts}
 
@@ -28,19 +30,21 @@ pub record RunWorker : Type 0 where
   pub handled : List Tagged
 
 -- Its token belongs to the access point, whose published loads are this list, and has one part of each ledger, which has
--- counted what the events count.
+-- counted what the events count. What is told of these events is what the token's own entries say.
 pub record IsRunWorker (list : Book) (w : RunWorker) : Type 0 where
   pub own : IsWorker w.ap w.token
   pub list_is : w.ap.list.list ≡ list
   pub parts : HasParts 1 (holding_of w.token.shards)
   pub counts : counted_by w.token.shards ≡ tally w.handled
+  pub accounts : Accounts w.token w.handled
 
--- An operator's access point and token, the parts of the ledgers and the pages that it keeps and how many of each they
--- are, what these have counted, how many workers have one, what was published, what the workers that came back have
+-- An operator's access point, the configuration of its link, and its token, the parts of the ledgers and the pages that it
+-- keeps and how many of each they are, what these have counted, how many workers have one, what was published, what the workers that came back have
 -- counted of the runs of the programs in force, the files of programs, and what the verifier or a check may do for each
 -- program.
 pub record RunOperator (F : Type 0) : Type 0 where
   pub ap : Live
+  pub config : Config
   pub token : Operator
   pub hoard : Holding
   pub pages : EightPages
@@ -69,7 +73,8 @@ pub record IsRunOperator {F : Type 0} (shares : ℕ) (list : Book) (o : RunOpera
 
 -- what an operator works with, where this is known of its files, and what it has done
 abbrev pub work_of : {F : Type 0} → (F → Held) → RunOperator F → Work
-work_of held o = record { files = held o.files; limits = o.limits; puts = puts_of o.token.lines; loads = o.loads }
+work_of held o =
+    record { files = held o.files; limits = o.limits; config = o.config; puts = puts_of o.token.lines; histories = histories_of o.token.shards; loads = o.loads }
 
 -- how many workers have rights, what those that came back have counted, and what the operator has done
 abbrev pub crew_of : {F : Type 0} → (F → Held) → RunOperator F → Crew live

@@ -4,6 +4,7 @@ pub mod Reports
 pub mod Telling
 pub mod InForce
 pub mod Listing
+pub mod Deciding
 pub mod Work
 pub mod Hands
 pub mod NewRuns

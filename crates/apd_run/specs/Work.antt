@@ -1,27 +1,41 @@
 -- What an operator works with, and what it has done so far.
-use Rattle.std.specs.Prelude.{◌≡◌, ℕ, List, Option, Some, None, IfSome}
+use Rattle.std.specs.Prelude.{◌≡◌, ◌<◌, ℕ, List, Option, Some, None, IfSome}
+use Rattle.std.specs.List.{All}
+use mathlib.Core.List.{IsPrefix}
 use Rattle.bpf_regions.specs.declared.hooks.Hook.{Hook}
 use Rattle.bpf_verifier.specs.declared.limit.Limits.{Limits}
 use Rattle.versions.specs.Lists.{Beginning, with_load}
 use Rattle.versions.specs.Sets.{load}
 use Rattle.ap_model.specs.declared.event.Event.{Event}
+use Rattle.ap_model.specs.Readings.{Config}
+use Rattle.ap_model.specs.Runs.{Entry}
+use Rattle.ap_locked.specs.Tokens.{IsAmong}
 use Rattle.ap_queues.specs.Items.{Item}
 use Rattle.ap_queues.specs.Putting.{item, with_item}
+use Rattle.ap_live.specs.Tokens.{Worker}
+use Rattle.ap_live.specs.Upholding.{token_at}
+use Rattle.ap_live.specs.declared.tagged.Tagged.{Tagged}
 use Rattle.apd_files.specs.Held.{Held, path_of}
 use Rattle.apd_script.specs.Asked.{Asked, Load, Unload, Adopt, Store, Read, Sum}
 use Rattle.apd_script.specs.declared.command.MapWord.{MapWord}
 use Rattle.apd_driver.specs.Semantics.{Semantics}
+use Rattle.apd_driver.specs.declared.reports.report.Report.{Report}
 use Rattle.apd_driver.specs.declared.reports.report.Told.{Told}
 use Rattle.apd_driver.specs.declared.reports.report.Told.TheVariants.{Memory, Word}
 use Rattle.apd_run.specs.Adopting.{AdoptsFiles}
+use Rattle.apd_run.specs.Deciding.{AreEntries, Concerns, IsHistory}
 use Rattle.apd_run.specs.Loading.{LoadsFile}
+use Rattle.apd_run.specs.Telling.{reports_in}
 
--- what is known of the files of programs, what the verifier or a check may do for each program; what was put into the queue
--- of each worker, in order, and the loads that were published
+-- what is known of the files of programs, what the verifier or a check may do for each program, the configuration of the
+-- link; what was put into the queue of each worker, in order, what the operator knows of each shard's history, and the loads
+-- that were published
 pub record Work : Type 0 where
   pub files : Held
   pub limits : Limits
+  pub config : Config
   pub puts : List (List Item)
+  pub histories : ℕ → List Entry
   pub loads : Beginning
 
 -- the same with other loads
@@ -31,6 +45,10 @@ with_loads w loads = record w { loads = loads }
 -- the event of a line was put at a shard, after all that was put before
 abbrev pub put_at : Work → ℕ → Event → ℕ → Work
 put_at w line e shard = record w { puts = with_item w.puts (item line shard e) }
+
+-- the same with other histories
+abbrev pub with_histories : Work → (ℕ → List Entry) → Work
+with_histories w histories = record w { histories = histories }
 
 -- the value of a word
 abbrev pub IsWord : Told → Type 0
@@ -51,10 +69,34 @@ pub data Does (old new : Work) : Asked → Option Told → Type 0 where
   Reads : (word : MapWord) (told : Option Told) → IfSome told IsWord → new ≡ old → Does old new (Read word) told
   Sums : (word : MapWord) (told : Option Told) → IfSome told IsWord → new ≡ old → Does old new (Sum word) told
 
+-- the operator knows more of the shards' histories, or as much, and nothing else changed
+pub record Sees (old new : Work) : Type 0 where
+  pub others : new ≡ with_histories old new.histories
+  pub go_on : (s : ℕ) → s < 8 → IsPrefix (old.histories s) (new.histories s)
+
+-- The operator met a worker: it then knows all that the worker decided, in the one history of each shard.
+pub record Meets (old new : Work) (w : Worker) : Type 0 where
+  pub sees : Sees old new
+  pub holds : (s : ℕ) → s < 8 → IsHistory s new.config (new.histories s)
+  pub among : (s : ℕ) → s < 8 → IsAmong (token_at s w.shards).own (new.histories s)
+
+-- What became of a worker's events was taken over, and is what these reports tell. Each event concerns its shard. What is
+-- told of those that were decided at a shard is, in order, what entries of the shard's history say. Each history goes on
+-- with what the operator knew of it before, and is a run of the link from nobody on, under the configuration.
+pub record Takes (old new : Work) (reports : List Report) : Type 0 where
+  pub events : List Tagged
+  pub told : reports ≡ reports_in events
+  pub concern : All Concerns events
+  pub decided : (s : ℕ) → s < 8 → AreEntries s events (new.histories s)
+  pub holds : (s : ℕ) → s < 8 → IsHistory s new.config (new.histories s)
+  pub sees : Sees old new
+
 -- what is said of an operator of a live access point
 abbrev pub live : Semantics
 live = record {
   Work = Work;
   Does = λ old new a told. Does old new a told;
   Puts = λ old new line e shard. new ≡ put_at old line e shard;
+  Takes = λ old new reports. Takes old new reports;
+  Sees = λ old new. Sees old new;
 }

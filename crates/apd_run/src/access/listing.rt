@@ -4,6 +4,7 @@ ghost use Rattle.std.specs.Prelude.{◌≡◌, IfOk, map};
 ghost use Rattle.ap_core.specs.Listing.{MergesAgreements, MergesStations};
 ghost use Rattle.ap_shards.specs.Listing.{Shows};
 ghost use Rattle.apd_driver.specs.Asking.{AreAgreementsInOrder, AreStationsInOrder};
+ghost use Rattle.apd_driver.specs.Crews.{LooksOn};
 ghost use Rattle.apd_run.specs.Hands.{crew_of};
 ghost use Rattle.apd_run.specs.Listing.{ListsAgreements, ListsStations, agreement_row, station_row};
 
@@ -75,7 +76,7 @@ impl<'a, B: Ledgers + Journals, L: Publications, F: Files> LiveOperator<'a, B, L
         rt: &R,
         alloc: Global,
     ) -> Result<Vec<StationRow>, AllocError>
-        ensures same { crew_of F.held self.new ≡ crew_of F.held self.old }
+        ensures looks { LooksOn (crew_of F.held self.old) (crew_of F.held self.new) }
         ensures ordered { IfOk result (λ rows. AreStationsInOrder rows.items) }
         ensures lists { IfOk result (λ rows. ListsStations B.config
             self.old.token.shards self.new.token.shards rows.items) }
@@ -90,7 +91,7 @@ impl<'a, B: Ledgers + Journals, L: Publications, F: Files> LiveOperator<'a, B, L
         rt: &R,
         alloc: Global,
     ) -> Result<Vec<AgreementRow>, AllocError>
-        ensures same { crew_of F.held self.new ≡ crew_of F.held self.old }
+        ensures looks { LooksOn (crew_of F.held self.old) (crew_of F.held self.new) }
         ensures ordered { IfOk result (λ rows. AreAgreementsInOrder rows.items) }
         ensures lists { IfOk result (λ rows. ListsAgreements B.config
             self.old.token.shards self.new.token.shards rows.items) }

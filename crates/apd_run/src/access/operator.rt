@@ -8,7 +8,8 @@ ghost use Rattle.versions.specs.Sets.{set_of};
 ghost use Rattle.hook_judge.specs.Sums.{no_counts};
 ghost use Rattle.apd_run.specs.InForce.{budget_shown, budgets_of, row_shown, rows_of, with_counts};
 ghost use Rattle.apd_run.specs.Hands.{crew_of, work_of};
-ghost use Rattle.apd_run.specs.Work.{Does, IsWord};
+ghost use Rattle.apd_run.specs.Deciding.{Accounts};
+ghost use Rattle.apd_run.specs.Work.{Does, IsWord, Meets};
 ghost use Rattle.apd_script.specs.Asked.{Adopt, Load, Unload};
 ghost use Rattle.apd_driver.specs.Tallies.{told_counts};
 ghost use Rattle.apd_driver.specs.Crews.{Works, gains, with_one_more};
@@ -67,6 +68,7 @@ impl<'a, B: Ledgers + Journals, L: Publications, F: Files> Model for LiveOperato
 
     ghost view = { λ o. record {
       ap = o.ap.now;
+      config = B.config;
       token = o.token.value;
       hoard = o.hoard.value;
       pages = o.pages.value;
@@ -81,6 +83,7 @@ impl<'a, B: Ledgers + Journals, L: Publications, F: Files> Model for LiveOperato
 
     ghost invariant = { λ o. IsRunOperator B.shares L.list (record {
       ap = o.ap.now;
+      config = B.config;
       token = o.token.value;
       hoard = o.hoard.value;
       pages = o.pages.value;
@@ -190,10 +193,21 @@ impl<'a, B: Ledgers + Journals, L: Publications, F: Files> LiveOperator<'a, B, L
 }
 
 impl<'a, B: Ledgers + Journals, L: Publications, F: Files> LiveOperator<'a, B, L, F> {
+    /// Meets a worker: the operator then knows all that the worker decided, in the one history of each shard. Does nothing
+    /// at run time.
+    fn meet<G: Drop>(&mut self, worker: &mut LiveWorker<'a, B, L, G>)
+        ensures works { Works (crew_of F.held self.old) (crew_of F.held self.new) }
+        ensures meets { Meets (work_of F.held self.old) (work_of F.held self.new) worker.new.token }
+    {
+        worker.token.meet_operator(&mut *self.token);
+        worker.token.known();
+    }
+
     /// Takes over a worker's counts, also those of the runs of its programs, gives it fresh parts of the ledgers, and
     /// returns what became of its events.
     fn exchange<G: Drop>(&mut self, worker: &mut LiveWorker<'a, B, L, G>) -> Vec<Tagged>
         ensures crew { crew_of F.held self.new ≡ gains (crew_of F.held self.old) (tally result.items) }
+        ensures accounts { Accounts worker.old.token result.items }
         ensures programs { self.new.programs
             ≡ with_counts self.old.programs worker.old.token.held.counts }
         ensures worker { counted_by worker.new.token.shards ≡ none }
@@ -353,6 +367,7 @@ impl<'a, B: Ledgers + Journals, L: Publications, F: Files, G: Drop> Operating<
         worker: &mut LiveWorker<'a, B, L, G>,
         reports: &mut Vec<Report>,
     ) -> Result<(), AllocError> {
+        self.meet(worker);
         let handled = self.exchange(worker);
         self.tell(worker);
         report_all(reports, handled)?;

@@ -7,10 +7,12 @@ use Rattle.ap_shards.specs.Tokens.{holding_of}
 use Rattle.ap_live.specs.declared.tagged.Tagged.{Tagged}
 use Rattle.apd_driver.specs.Crews.{gains}
 use Rattle.ap_live.specs.Tokens.{Worker}
-use Rattle.apd_run.specs.Hands.{crew_of}
+use Rattle.apd_run.specs.Deciding.{Accounts}
+use Rattle.apd_run.specs.Hands.{RunWorker, crew_of}
 use Rattle.apd_run.specs.InForce.{AreInForce, with_counts}
 use Rattle.apd_run.specs.declared.access.program_counts.ProgramCounts.{ProgramCounts}
 use Rattle.apd_run.proofs.Budgeting.{counted_in_force}
+use Rattle.apd_run.proofs.Deciding.{renewed_unowned}
 use Rattle.apd_run.proofs.Keeping.{other_parts}
 use Rattle.apd_run.proofs.Operated.{gained_crew}
 use Rattle.apd_run.proofs.Sums.{exchanged_parts, exchanged_sum, fresh, more_than_one}
@@ -57,7 +59,7 @@ invariant_of-self g c =
 pub invariant_of-worker : goal.invariant_of-worker
 invariant_of-worker g c =
     let empty = ap (λ (v : Vec Tagged). v.items) c.replace-handled.ensures.after ∙ c.new.ensures.items in
-    other_parts _ _ _ c.split_off-fresh.result c.replace-handled.new.dest.items (c.renew-counted.ensures.same ∙ ap (λ (w : Worker). record w { shards = c.renew-counted.new.self.shards }) c.take_counts-runs.ensures.anew) c.renew-counted.ensures.taken c.split_off-fresh.ensures.parts c.split_off-fresh.ensures.none empty c.worker.invariant
+    other_parts _ _ _ c.split_off-fresh.result c.replace-handled.new.dest.items (c.renew-counted.ensures.same ∙ ap (λ (w : Worker). record w { shards = c.renew-counted.new.self.shards }) c.take_counts-runs.ensures.anew) c.renew-counted.ensures.taken c.split_off-fresh.ensures.parts c.split_off-fresh.ensures.none empty (renewed_unowned _ _ c.renew-counted.ensures.renewed) c.worker.invariant
 
 pub returns-clause-crew : goal.returns-clause-crew
 returns-clause-crew g c =
@@ -69,3 +71,8 @@ returns-clause-crew g c =
     let counted = exchanged_sum hoard left c.renew-counted.result c.merge.new.self (counted_by shards) stayed merged (ap sum_of c.renew-counted.ensures.given ∙ ap (λ (w : Worker). counted_by w.shards) c.take_counts-runs.ensures.anew) in
     let handled = c.worker.invariant.counts ∙ sym (ap (λ (v : Vec Tagged). tally v.items) c.replace-handled.ensures.value) in
     gained_crew g.F.Files.held _ _ c.merge.new.self (counted_by shards) c.self.view_is counted ∙ ap (gains (crew_of g.F.Files.held c.args.self.now)) handled
+
+pub returns-clause-accounts : goal.returns-clause-accounts
+returns-clause-accounts g c =
+    subst (λ (w : RunWorker). Accounts w.token c.replace-handled.result.items) c.worker.view_is
+    (subst (λ (v : Vec Tagged). Accounts c.worker.inside.token v.items) (sym c.replace-handled.ensures.value) c.worker.invariant.accounts)

@@ -9,4 +9,4 @@ invariant_of-self g c = other_token _ _ _ _ c.store.ensures.own (ap (λ (o : Ope
 
 pub returns : goal.returns
 returns g c =
-    record { same = same_lines g.F.Files.held _ _ c.store.new.operator _ c.self.view_is c.deref_mut.ensures.value (ap (λ (o : Operator). o.lines) c.store.ensures.same) }
+    record { same = same_lines g.F.Files.held _ _ c.store.new.operator _ c.self.view_is c.deref_mut.ensures.value (ap (λ (o : Operator). o.lines) c.store.ensures.same) (ap (λ (o : Operator). o.shards) c.store.ensures.same) }

@@ -8,4 +8,4 @@ pub invariant_of-self : goal.invariant_of-self
 invariant_of-self g c = other_token _ _ _ _ c.sum-value.ensures.own (ap (λ (o : Operator). o.shards) c.sum-value.ensures.same ∙ ap (λ (o : Operator). o.shards) c.deref_mut.ensures.value) c.self.invariant
 
 pub returns-clause-same : goal.returns-clause-same
-returns-clause-same g c = same_lines g.F.Files.held _ _ c.sum-value.new.operator _ c.self.view_is c.deref_mut.ensures.value (ap (λ (o : Operator). o.lines) c.sum-value.ensures.same)
+returns-clause-same g c = same_lines g.F.Files.held _ _ c.sum-value.new.operator _ c.self.view_is c.deref_mut.ensures.value (ap (λ (o : Operator). o.lines) c.sum-value.ensures.same) (ap (λ (o : Operator). o.shards) c.sum-value.ensures.same)

@@ -1,11 +1,11 @@
 use Rattle.std.proofs.Common.{ap, ◌∙◌}
 use Rattle.ap_live.specs.Counting.{counted_by}
-use Rattle.apd_run.proofs.Served.{collects_told}
+use Rattle.apd_run.proofs.Served.{collects_met}
 use Rattle.apd_run.proofs.access.operator.LiveOperatorOperatingLiveWorker.settle.Goals as goal
 
 pub returns : goal.returns
 returns g c =
     record {
-      collects = collects_told _ _ _ _ _ c.in_ok-report_all.ensures (c.tell.ensures.same ∙ c.exchange-handled.ensures.crew);
+      collects = collects_met _ _ _ _ _ _ _ c.meet.ensures.works c.meet.ensures.meets c.exchange-handled.ensures.accounts (c.tell.ensures.same ∙ c.exchange-handled.ensures.crew) c.in_ok-report_all.ensures;
       worker = ap counted_by c.tell.ensures.worker ∙ c.exchange-handled.ensures.worker;
     }

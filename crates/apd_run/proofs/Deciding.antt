@@ -1,0 +1,177 @@
+-- What became of a worker's events, and the histories of the shards.
+use Rattle.std.proofs.Common.{◌≡◌, ◌<◌, ℕ, Bool, true, false, List, [], ◌∷◌, ◌++◌, map, refl, sym, ap, subst, ◌∙◌, append_assoc, append-nil}
+use Rattle.std.specs.Prelude.{◌==◌}
+use Rattle.std.specs.List.{All}
+use Rattle.std.proofs.lemmas.List.{map-append}
+use Rattle.std.proofs.lemmas.List.Elements.{All-append, All-cons, All-nil, All-same}
+use mathlib.Core.List.{IsPrefix}
+use Rattle.ap_model.specs.declared.event.Event.{Event}
+use Rattle.ap_model.specs.declared.event.Out.{Out}
+use Rattle.ap_model.specs.Asks.{Ask}
+use Rattle.ap_model.specs.Readings.{Config, Readings, Rules}
+use Rattle.ap_model.specs.Runs.{Entry}
+use Rattle.ap_core.specs.Handles.{rules}
+use Rattle.ap_locked.specs.Kept.{entry_of}
+use Rattle.ap_locked.specs.Tokens.{IsAmong, KeepsOwn, Token}
+use Rattle.ap_queues.specs.declared.item.Queued.{Queued}
+use Rattle.ap_shards.specs.Fates.{ChangesIf, Comes}
+use Rattle.ap_shards.specs.Judged.{JudgedBy}
+use Rattle.ap_shards.specs.Renewal.{AreRenewed}
+use Rattle.ap_shards.specs.Tokens.{Eight, HaveSeenAlike, IsNewcomer, KeepOwn}
+use Rattle.ap_shards.specs.declared.fate.Fate.{Fate}
+use Rattle.ap_shards.specs.declared.fate.Fate.TheVariants.{Decided, Refused, NotHandled}
+use Rattle.ap_live.specs.Lives.{Live}
+use Rattle.ap_live.specs.Serving.{Progress, Served, ServesAll, progress_of}
+use Rattle.ap_live.specs.Tokens.{Worker}
+use Rattle.ap_live.specs.Upholding.{UpholdAll, token_at}
+use Rattle.ap_live.specs.declared.tagged.Tagged.{Tagged}
+use Rattle.ap_live.proofs.Growing.{by_shard}
+use Rattle.ap_live.specs.Verdicts.{AreJudged}
+use Rattle.versions.specs.declared.list.Load.{Load}
+use Rattle.versions.specs.Sets.{set_of}
+use Rattle.apd_run.specs.Deciding.{Accounts, Concerns, Deed, IsHistory, WasJudged, deed_of, deeds_at, histories_of, with_deed}
+use Rattle.apd_run.proofs.Judging.{are_judged}
+
+-- ---- what is told of events, list by list
+
+deed_two : (here : Bool) (e : Event) (f : Fate) (xs ys : List Deed) → with_deed here e f (xs ++ ys) ≡ with_deed here e f xs ++ ys
+deed_two true e (Decided outs dropped) xs ys = refl
+deed_two true e Refused xs ys = refl
+deed_two true e NotHandled xs ys = refl
+deed_two false e f xs ys = refl
+
+deeds_two : (s : ℕ) (xs ys : List Tagged) → deeds_at s (xs ++ ys) ≡ deeds_at s xs ++ deeds_at s ys
+deeds_two s [] ys = refl
+deeds_two s (t ∷ ts) ys =
+    ap (with_deed (t.item.shard == s) t.item.event t.fate) (deeds_two s ts ys) ∙ deed_two (t.item.shard == s) t.item.event t.fate (deeds_at s ts) (deeds_at s ys)
+
+-- ---- what a worker served
+
+-- the token has more entries of its own, which say this, with verdicts of accepted programs
+record Adds (t : Token) (deeds : List Deed) (u : Token) : Type 0 where
+  entries : List Entry
+  own : u.own ≡ t.own ++ entries
+  say : map deed_of entries ≡ deeds
+  judged : All WasJudged entries
+
+adds_none : (t u : Token) → u ≡ t → Adds t [] u
+adds_none t u is = record { entries = []; own = ap (λ (z : Token). z.own) is ∙ sym (append-nil t.own); say = refl; judged = All-nil WasJudged }
+
+-- these verdicts are those of the programs in which the loads result
+abbrev Judges : (Readings → List (Ask × ℕ) → Type 0) → List Load → Type 0
+Judges V loads = (r : Readings) (asked : List (Ask × ℕ)) → V r asked → AreJudged (set_of loads) asked
+
+adds_one : (V : Readings → List (Ask × ℕ) → Type 0) (loads : List Load) → Judges V loads → (rs : Rules) (e : Event) (f : Fate) (here : Bool) (t u w : Token) (later : List Deed)
+    → ChangesIf here (λ t u. Comes V rs t e f u) t u → Adds u later w → Adds t (with_deed here e f later) w
+adds_one V loads judges rs e (Decided outs dropped) true t u w later c h =
+    let entry : Entry = entry_of e c.asked outs.items in
+    record {
+      entries = entry ∷ h.entries;
+      own = h.own ∙ (ap (λ (l : List Entry). l ++ h.entries) c.own ∙ append_assoc t.own (entry ∷ []) h.entries);
+      say = λ i. record { event = e; outs = outs.items; dropped = sym c.flag i } ∷ h.say i;
+      judged = All-cons WasJudged entry h.entries (record { loads = loads; judged = judges c.readings c.asked c.verdicts }) h.judged;
+    }
+adds_one V loads judges rs e Refused true t u w later c h = subst (λ (z : Token). Adds z later w) c h
+adds_one V loads judges rs e NotHandled true t u w later c h = subst (λ (z : Token). Adds z later w) c h
+adds_one V loads judges rs e f false t u w later c h = subst (λ (z : Token). Adds z later w) c h
+
+module _ (config : Config) (a : Live) (worker : ℕ) where
+  adds_all : (s : ℕ) → s < 8 → (p : Progress) (items : List Queued) (tags : List Tagged) (q : Progress) → ServesAll config a worker p items tags q
+      → Adds (token_at s p.shards) (deeds_at s tags) (token_at s q.shards)
+  adds_all s low p [] [] q is = adds_none (token_at s p.shards) (token_at s q.shards) (ap (λ (z : Progress). token_at s z.shards) is)
+  adds_all s low p (x ∷ xs) (t ∷ ts) q r =
+      let m : Progress = r.0 in
+      let b = r.1.became in
+      let V : Readings → List (Ask × ℕ) → Type 0 = JudgedBy a.stock.maps worker m.seen.loads p.held m.held in
+      let judges : Judges V m.seen.loads = λ readings asked v. are_judged _ m.seen.loads p.held m.held asked v.verdicts in
+      let e : Event = t.item.event in
+      by_shard (λ s. Adds (token_at s m.shards) (deeds_at s ts) (token_at s q.shards) → Adds (token_at s p.shards) (deeds_at s (t ∷ ts)) (token_at s q.shards))
+      (adds_one V m.seen.loads judges (rules t.item.shard config) e t.fate (t.item.shard == 0) p.shards.of0 m.shards.of0 q.shards.of0 (deeds_at 0 ts) b.came.of0)
+      (adds_one V m.seen.loads judges (rules t.item.shard config) e t.fate (t.item.shard == 1) p.shards.of1 m.shards.of1 q.shards.of1 (deeds_at 1 ts) b.came.of1)
+      (adds_one V m.seen.loads judges (rules t.item.shard config) e t.fate (t.item.shard == 2) p.shards.of2 m.shards.of2 q.shards.of2 (deeds_at 2 ts) b.came.of2)
+      (adds_one V m.seen.loads judges (rules t.item.shard config) e t.fate (t.item.shard == 3) p.shards.of3 m.shards.of3 q.shards.of3 (deeds_at 3 ts) b.came.of3)
+      (adds_one V m.seen.loads judges (rules t.item.shard config) e t.fate (t.item.shard == 4) p.shards.of4 m.shards.of4 q.shards.of4 (deeds_at 4 ts) b.came.of4)
+      (adds_one V m.seen.loads judges (rules t.item.shard config) e t.fate (t.item.shard == 5) p.shards.of5 m.shards.of5 q.shards.of5 (deeds_at 5 ts) b.came.of5)
+      (adds_one V m.seen.loads judges (rules t.item.shard config) e t.fate (t.item.shard == 6) p.shards.of6 m.shards.of6 q.shards.of6 (deeds_at 6 ts) b.came.of6)
+      (adds_one V m.seen.loads judges (rules t.item.shard config) e t.fate (t.item.shard == 7) p.shards.of7 m.shards.of7 q.shards.of7 (deeds_at 7 ts) b.came.of7)
+      s low (adds_all s low m xs ts q r.2)
+  adds_all s low p [] (t ∷ ts) q r = absurd r
+  adds_all s low p (x ∷ xs) [] q r = absurd r
+
+  all_concern : (p : Progress) (items : List Queued) (tags : List Tagged) (q : Progress) → ServesAll config a worker p items tags q → All Concerns tags
+  all_concern p [] [] q is = All-nil Concerns
+  all_concern p (x ∷ xs) (t ∷ ts) q r = All-cons Concerns t ts r.1.told (all_concern r.0 xs ts q r.2)
+  all_concern p [] (t ∷ ts) q r = absurd r
+  all_concern p (x ∷ xs) [] q r = absurd r
+
+-- a worker that served more
+pub accounts_more : (config : Config) (a : Live) (w w2 : Worker) (l l2 : List Tagged) → Served config a w w2 l l2 → Accounts w l → Accounts w2 l2
+accounts_more config a w w2 l l2 s h =
+    let more : All Concerns s.tags = all_concern config a w.number (progress_of w) s.items s.tags (progress_of w2) s.served in
+    record {
+      told = All-same Concerns l2 (l ++ s.tags) s.listed (All-append Concerns l s.tags h.told more);
+      deeds = λ n low.
+          let d = adds_all config a w.number n low (progress_of w) s.items s.tags (progress_of w2) s.served in
+          ap (map deed_of) d.own
+          ∙ (map-append deed_of (token_at n w.shards).own d.entries
+          ∙ ((λ i. h.deeds n low i ++ d.say i) ∙ (sym (deeds_two n l s.tags) ∙ ap (deeds_at n) (sym s.listed))));
+      judged = λ n low.
+          let d = adds_all config a w.number n low (progress_of w) s.items s.tags (progress_of w2) s.served in
+          All-same WasJudged (token_at n w2.shards).own ((token_at n w.shards).own ++ d.entries) d.own
+          (All-append WasJudged (token_at n w.shards).own d.entries (h.judged n low) d.judged);
+    }
+
+-- a worker without entries of its own, and without events
+pub accounts_none : (w : Worker) (l : List Tagged) → l ≡ [] → ((s : ℕ) → s < 8 → (token_at s w.shards).own ≡ []) → Accounts w l
+accounts_none w l empty none =
+    record {
+      told = All-same Concerns l [] empty (All-nil Concerns);
+      deeds = λ s low. ap (map deed_of) (none s low) ∙ ap (deeds_at s) (sym empty);
+      judged = λ s low. All-same WasJudged (token_at s w.shards).own [] (none s low) (All-nil WasJudged);
+    }
+
+-- a worker with the same entries of its own
+pub accounts_same : (w w2 : Worker) (l : List Tagged) → ((s : ℕ) → s < 8 → (token_at s w2.shards).own ≡ (token_at s w.shards).own) → Accounts w l → Accounts w2 l
+accounts_same w w2 l same h =
+    record {
+      told = h.told;
+      deeds = λ s low. ap (map deed_of) (same s low) ∙ h.deeds s low;
+      judged = λ s low. All-same WasJudged (token_at s w2.shards).own (token_at s w.shards).own (same s low) (h.judged s low);
+    }
+
+-- ---- entries of one's own
+
+-- a new token has none
+pub new_unowned : (a u : Eight) → IsNewcomer a u → (s : ℕ) → s < 8 → (token_at s u).own ≡ []
+new_unowned a u n =
+    by_shard (λ s. (token_at s u).own ≡ []) (ap (λ (t : Token). t.own) n.0) (ap (λ (t : Token). t.own) n.1) (ap (λ (t : Token). t.own) n.2) (ap (λ (t : Token). t.own) n.3)
+    (ap (λ (t : Token). t.own) n.4) (ap (λ (t : Token). t.own) n.5) (ap (λ (t : Token). t.own) n.6) (ap (λ (t : Token). t.own) n.7)
+
+-- nor has one whose parts were exchanged
+pub renewed_unowned : (a u : Eight) → AreRenewed a u → (s : ℕ) → s < 8 → (token_at s u).own ≡ []
+renewed_unowned a u r = by_shard (λ s. (token_at s u).own ≡ []) r.0.own r.1.own r.2.own r.3.own r.4.own r.5.own r.6.own r.7.own
+
+-- whoever only saw more has the same
+pub kept_own : (a b : Eight) → KeepOwn a b → (s : ℕ) → s < 8 → (token_at s b).own ≡ (token_at s a).own
+kept_own a b k = by_shard (λ s. (token_at s b).own ≡ (token_at s a).own) k.0.own k.1.own k.2.own k.3.own k.4.own k.5.own k.6.own k.7.own
+
+-- ---- histories
+
+-- what was seen goes on
+pub kept_seen : (a b : Eight) → KeepOwn a b → (s : ℕ) → s < 8 → IsPrefix (histories_of a s) (histories_of b s)
+kept_seen a b k = by_shard (λ s. IsPrefix (histories_of a s) (histories_of b s)) k.0.seen k.1.seen k.2.seen k.3.seen k.4.seen k.5.seen k.6.seen k.7.seen
+
+-- who met has seen the same
+seen_alike : (a b : Eight) → HaveSeenAlike a b → (s : ℕ) → s < 8 → histories_of a s ≡ histories_of b s
+seen_alike a b h = by_shard (λ s. histories_of a s ≡ histories_of b s) h.0 h.1 h.2 h.3 h.4 h.5 h.6 h.7
+
+-- what a worker upholds, whoever met it knows
+pub met_histories : (config : Config) (w o : Eight) → HaveSeenAlike w o → UpholdAll config w → (s : ℕ) → s < 8 → IsHistory s config (histories_of o s)
+met_histories config w o alike up s low =
+    let u = up s low in
+    subst (λ (l : List Entry). IsHistory s config l) (seen_alike w o alike s low) (record { readings = u.readings; holds = u.holds })
+
+pub met_among : (config : Config) (w o : Eight) → HaveSeenAlike w o → UpholdAll config w → (s : ℕ) → s < 8 → IsAmong (token_at s w).own (histories_of o s)
+met_among config w o alike up s low =
+    let u = up s low in
+    subst (λ (l : List Entry). IsAmong (token_at s w).own l) (seen_alike w o alike s low) u.among

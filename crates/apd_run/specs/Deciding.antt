@@ -1,0 +1,77 @@
+-- What became of a worker's events, as the shards' histories have it.
+use Rattle.std.specs.Prelude.{◌≡◌, ◌==◌, ◌<◌, ℕ, Bool, true, false, List, [], ◌∷◌, map}
+use Rattle.std.specs.List.{All}
+use Rattle.ap_model.specs.declared.event.Event.{Event}
+use Rattle.ap_model.specs.declared.event.Out.{Out}
+use Rattle.ap_model.specs.Drops.{drops}
+use Rattle.ap_model.specs.Readings.{Config, Readings}
+use Rattle.ap_model.specs.Runs.{Entry}
+use Rattle.ap_core.specs.Handles.{rules}
+use Rattle.ap_laws.specs.Headline.{LinkHolds}
+use Rattle.ap_locked.specs.Tokens.{IsAmong}
+use Rattle.ap_queues.specs.Items.{IsTold}
+use Rattle.versions.specs.declared.list.Load.{Load}
+use Rattle.versions.specs.Sets.{set_of}
+use Rattle.ap_shards.specs.Tokens.{Eight}
+use Rattle.ap_shards.specs.declared.fate.Fate.{Fate}
+use Rattle.ap_shards.specs.declared.fate.Fate.TheVariants.{Decided, Refused, NotHandled}
+use Rattle.ap_live.specs.Tokens.{Worker}
+use Rattle.ap_live.specs.Upholding.{token_at}
+use Rattle.ap_live.specs.Verdicts.{AreJudged}
+use Rattle.ap_live.specs.declared.tagged.Tagged.{Tagged}
+
+-- a decided event, what it led to, and whether a verdict dropped its data
+pub record Deed : Type 0 where
+  pub event : Event
+  pub outs : List Out
+  pub dropped : Bool
+
+-- what an entry of a history says of this
+abbrev pub deed_of : Entry → Deed
+deed_of e = record { event = e.event; outs = e.outs; dropped = drops e.asked }
+
+-- adds what is told of an event, if it was decided at the shard
+abbrev pub with_deed : Bool → Event → Fate → List Deed → List Deed
+with_deed true e (Decided outs dropped) later = record { event = e; outs = outs.items; dropped = dropped } ∷ later
+with_deed true e Refused later = later
+with_deed true e NotHandled later = later
+with_deed false e fate later = later
+
+-- what is told of the events that were decided at this shard, in order
+abbrev pub deeds_at : ℕ → List Tagged → List Deed
+deeds_at s [] = []
+deeds_at s (t ∷ ts) = with_deed (t.item.shard == s) t.item.event t.fate (deeds_at s ts)
+
+-- an event that concerns the shard at which it was handled
+abbrev pub Concerns : Tagged → Type 0
+Concerns t = IsTold t.item.event t.item.shard
+
+-- each verdict in the entry is that of an accepted program, within its budget, or of the verdict tables if there is none: all
+-- of one set of programs, in which these loads result
+pub record WasJudged (e : Entry) : Type 0 where
+  pub loads : List Load
+  pub judged : AreJudged (set_of loads) e.asked
+
+-- Each event concerns its shard. What is told of those that were decided at a shard is, in order, what the token's own
+-- entries there say, whose verdicts are of accepted programs.
+pub record Accounts (w : Worker) (events : List Tagged) : Type 0 where
+  pub told : All Concerns events
+  pub deeds : (s : ℕ) → s < 8 → map deed_of (token_at s w.shards).own ≡ deeds_at s events
+  pub judged : (s : ℕ) → s < 8 → All WasJudged (token_at s w.shards).own
+
+-- what is told of the events that were decided at this shard is, in order, what entries of this history say, each at a
+-- position of its own; their verdicts are of accepted programs
+pub record AreEntries (s : ℕ) (events : List Tagged) (history : List Entry) : Type 0 where
+  pub entries : List Entry
+  pub deeds : map deed_of entries ≡ deeds_at s events
+  pub judged : All WasJudged entries
+  pub among : IsAmong entries history
+
+-- these entries are a run of this shard from nobody on, under this configuration, of which all laws of the link hold
+pub record IsHistory (s : ℕ) (config : Config) (history : List Entry) : Type 0 where
+  pub readings : Readings
+  pub holds : LinkHolds (rules s config) history readings
+
+-- what these tokens have seen of each shard
+abbrev pub histories_of : Eight → ℕ → List Entry
+histories_of e s = (token_at s e).seen
