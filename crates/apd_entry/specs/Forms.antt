@@ -43,6 +43,10 @@ form_of (Some style) (Some colours) = Some (record { style = style; colours = co
 form_of (Some style) None = None
 form_of None colours = None
 
+-- the form that `--events` and `--color` name, where a terminal shows the output or doesn't
+abbrev pub form_named : Bool → Option (List ℕ) → Option (List ℕ) → Option Form
+form_named shown events color = form_of (style_of events) (colours_of shown color)
+
 -- lines run as they come, in this form, with these files and limits; without a form nothing is written, and the status is
 -- that of a fault
 abbrev pub RunsFormed : Held → ℕ → Option ℕ → Bool → Option Form → Option (List ℕ) → Option (List ℕ) → ℕ → Type 0
@@ -50,7 +54,7 @@ RunsFormed files states work strict None old new status = (new ≡ old) × IsBro
 RunsFormed files states work strict (Some form) old new status =
     RunsNew files (within states work) (record { strict = strict; form = form }) None old new status
 
--- the same in the form that `--events` and `--color` name, where a terminal shows the output or doesn't
+-- the same in the form that `--events` and `--color` name
 abbrev pub RunsLive : Held → ℕ → Option ℕ → Bool → Bool → Option (List ℕ) → Option (List ℕ) → Option (List ℕ) → Option (List ℕ) → ℕ → Type 0
 RunsLive files states work shown strict events color old new status =
-    RunsFormed files states work strict (form_of (style_of events) (colours_of shown color)) old new status
+    RunsFormed files states work strict (form_named shown events color) old new status

@@ -10,11 +10,12 @@ ghost use Rattle.apd_entry.specs.Captured.{lines_known};
 ghost use Rattle.apd_entry.specs.Forms.{in_lines, RunsLive};
 
 use crate::destination::{beside, in_place, is_in_place};
+use crate::limits;
 use crate::lines::run_live;
 use apd_driver::{Form, Manner, Recording};
 use apd_files::{Files, Tapes};
 use apd_program::{Posed, ProgramFault, complain, judge_cases, respond, tell};
-use apd_run::{Limits, OpenGate, Progress, RunWords, StateLimit, Streams, Supplies, run};
+use apd_run::{OpenGate, Progress, RunWords, Streams, Supplies, run};
 use apd_words::{LiveRun, Request, ScriptRun, read_words};
 use std::alloc::Global;
 use std::io::{Read, Write};
@@ -69,39 +70,22 @@ where
 {
     let Messages { err, watched } = messages;
     let words = words_of(asked);
-    let limits = Limits {
-        states: StateLimit::nearest(asked.states),
-        work: asked.work,
-    };
+    let limits = limits::within(asked.states, asked.work);
     if watched && !asked.quiet {
         let progress = Progress::new(rt);
-        let gate = &progress;
-        return run(
-            rt,
-            alloc,
-            words,
-            Supplies {
-                files,
-                limits,
-                gate,
-            },
-            out,
-            err,
-        );
-    }
-    let gate = OpenGate;
-    return run(
-        rt,
-        alloc,
-        words,
-        Supplies {
+        let supplies = Supplies {
             files,
             limits,
-            gate,
-        },
-        out,
-        err,
-    );
+            gate: &progress,
+        };
+        return run(rt, alloc, words, supplies, out, err);
+    }
+    let supplies = Supplies {
+        files,
+        limits,
+        gate: OpenGate,
+    };
+    run(rt, alloc, words, supplies, out, err)
 }
 
 /// Runs a script, with a capture if that is wanted.
@@ -189,6 +173,14 @@ where
     }
 }
 
+/// The output of streams whose input nobody reads.
+fn output_of<I: Drop, O: Drop>(streams: Streams<I, O>) -> O
+    ensures is { result ≡ streams.out }
+{
+    let Streams { out, .. } = streams;
+    out
+}
+
 /// Does what the words ask for; the first is the program's own name. An answer goes to `out`, or, if it is a
 /// success, to the file named for it. Returns `out` and the exit status: 0 for success; 1 if something was refused
 /// (in a script's run, only if it is strict), a line of `live` is malformed or a capture is cut; 2 for a fault of the
@@ -210,45 +202,27 @@ where
     ensures fulfils { (w : Wanted) → Spells (map (λ word. word.now) words.entry.now) w
         → Fulfils streams.shown (F.held files.old) w (O.contents streams.out) (O.contents result.0) result.1 }
 {
-    let Messages { err, watched } = messages;
-    let Streams {
-        input,
-        out,
-        typed,
-        shown,
-    } = streams;
-    let mut out = out;
     match read_words(alloc, words) {
         Ok(Request::Run(asked)) => {
-            return run_script(rt, alloc, asked, files, out, Messages { err, watched });
+            let out = output_of(streams);
+            run_script(rt, alloc, asked, files, out, messages)
         }
-        Ok(Request::Live(asked)) => {
-            return run_input(
-                rt,
-                alloc,
-                asked,
-                files,
-                Streams {
-                    input,
-                    out,
-                    typed,
-                    shown,
-                },
-                err,
-            );
-        }
+        Ok(Request::Live(asked)) => run_input(rt, alloc, asked, files, streams, messages.err),
         Ok(Request::Answer(query)) => {
+            let mut out = output_of(streams);
             let posed = Posed { query, clock: rt };
-            let status = respond(alloc, posed, files, &mut out, err);
-            return (out, status);
+            let status = respond(alloc, posed, files, &mut out, messages.err);
+            (out, status)
         }
         Ok(Request::Test(paths)) => {
-            let status = judge_cases(alloc, paths.as_slice(), files, &mut out, err);
-            return (out, status);
+            let mut out = output_of(streams);
+            let status = judge_cases(alloc, paths.as_slice(), files, &mut out, messages.err);
+            (out, status)
         }
         Err(told) => {
-            let status = tell(alloc, &told, &mut out, err);
-            return (out, status);
+            let mut out = output_of(streams);
+            let status = tell(alloc, &told, &mut out, messages.err);
+            (out, status)
         }
     }
 }

@@ -5,6 +5,7 @@
 
 mod destination;
 mod entry;
+mod limits;
 mod lines;
 
 pub use apd_run::Streams;

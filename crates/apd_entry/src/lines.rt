@@ -2,12 +2,14 @@
 
 ghost use Rattle.std.specs.Prelude.{◌≡◌};
 ghost use Rattle.apd_words.specs.Asked.{text_of};
-ghost use Rattle.apd_entry.specs.Forms.{colours_named, colours_of, style_named, style_of, RunsLive};
+ghost use Rattle.apd_program.specs.Printed.{fault_status};
+ghost use Rattle.apd_entry.specs.Forms.{colours_named, colours_of, form_named, style_named, style_of, RunsLive};
 
+use crate::limits::within;
 use apd_driver::{Direct, Form, Manner, Recording, Style, Timed};
 use apd_files::Files;
 use apd_program::{ProgramFault, complain};
-use apd_run::{Limits, OpenGate, RunWords, StateLimit, Streams, Supplies, live};
+use apd_run::{OpenGate, RunWords, Streams, Supplies, live};
 use apd_words::LiveRun;
 use std::alloc::Global;
 use std::io::{self, Input, Read, Write};
@@ -75,6 +77,43 @@ fn colours_of(shown: bool, color: Option<&str>) -> Option<bool>
     }
 }
 
+/// The form that `--events` and `--color` name, if a terminal shows the output or doesn't; `None` if one is another word.
+fn form_named(shown: bool, asked: LiveRun<'_>) -> Option<Form>
+    ensures is { result ≡ form_named shown (text_of asked.entry.events) (text_of asked.entry.color) }
+{
+    let style = style_of(asked.events)?;
+    let colours = colours_of(shown, asked.color)?;
+    Some(Form { style, colours })
+}
+
+/// The fault of `--events` or `--color`, if they name no form.
+fn unformed(events: Option<&str>) -> ProgramFault
+    ensures status { fault_status result ≡ 2 }
+{
+    match style_of(events) {
+        None => ProgramFault::NoStyle,
+        Some(_) => ProgramFault::NoColours,
+    }
+}
+
+/// What a run of lines as they come is given. A prompt asks for lines if somebody types them.
+fn words_of<'a>(asked: LiveRun<'a>, form: Form, typed: bool) -> RunWords<'a>
+    ensures manner { result.manner ≡ record { strict = asked.entry.strict; form = form } }
+{
+    RunWords {
+        config: asked.config,
+        script: "-",
+        workers: asked.workers,
+        manner: Manner {
+            strict: asked.strict,
+            form,
+        },
+        verbose: asked.verbose,
+        prompts: typed,
+        capture: asked.capture.path.unwrap_or(""),
+    }
+}
+
 /// Runs lines as they come on an input, with a clock if that is asked for. The status is 2 if `--events` names no
 /// style or `--color` is another word, and 3 if there is no memory for the thread that reads beside a clock.
 pub(crate) fn run_live<R, F, I, O, E>(
@@ -102,64 +141,34 @@ where
         typed,
         shown,
     } = streams;
-    let Some(style) = style_of(asked.events) else {
-        return (out, complain(alloc, &ProgramFault::NoStyle, err));
+    let Some(form) = form_named(shown, asked) else {
+        return (out, complain(alloc, &unformed(asked.events), err));
     };
-    let Some(colours) = colours_of(shown, asked.color) else {
-        return (out, complain(alloc, &ProgramFault::NoColours, err));
-    };
-    let words = RunWords {
-        config: asked.config,
-        script: "-",
-        workers: asked.workers,
-        manner: Manner {
-            strict: asked.strict,
-            form: Form { style, colours },
-        },
-        verbose: asked.verbose,
-        prompts: typed,
-        capture: asked.capture.path.unwrap_or(""),
-    };
-    let limits = Limits {
-        states: StateLimit::nearest(asked.states),
-        work: asked.work,
-    };
-    let gate = OpenGate;
+    let words = words_of(asked, form, typed);
     let supplies = Supplies {
         files,
-        limits,
-        gate,
+        limits: within(asked.states, asked.work),
+        gate: OpenGate,
     };
     if !asked.clock {
-        let input = Direct { input };
-        return live(
-            rt,
-            alloc,
-            words,
-            supplies,
-            Streams {
-                input,
-                out,
-                typed,
-                shown,
-            },
-            err,
-        );
+        let streams = Streams {
+            input: Direct { input },
+            out,
+            typed,
+            shown,
+        };
+        return live(rt, alloc, words, supplies, streams, err);
     }
     match Timed::start(rt, alloc, rt, input) {
-        Ok(input) => live(
-            rt,
-            alloc,
-            words,
-            supplies,
-            Streams {
+        Ok(input) => {
+            let streams = Streams {
                 input,
                 out,
                 typed,
                 shown,
-            },
-            err,
-        ),
+            };
+            live(rt, alloc, words, supplies, streams, err)
+        }
         Err(_) => (out, complain(alloc, &ProgramFault::NoMemory, err)),
     }
 }

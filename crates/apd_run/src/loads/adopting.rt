@@ -74,13 +74,10 @@ impl Loads {
             return Told::Memory;
         };
         match decode(self.alloc, code, shapes) {
-            Ok(program) => {
-                let told = self.adopt_program(rt, hook, program, certificate, work);
-                return told;
-            }
+            Ok(program) => self.adopt_program(rt, hook, program, certificate, work),
             Err(fault) => match fault {
-                DecodeFault::NoMemory => return Told::Memory,
-                _ => return Told::Fault(fault),
+                DecodeFault::NoMemory => Told::Memory,
+                _ => Told::Fault(fault),
             },
         }
     }
@@ -103,10 +100,10 @@ impl Loads {
             certificate,
         };
         match publish_checked_within(rt, self.alloc, &mut self.publisher, offer, work) {
-            Ok(budget) => return Told::Loaded { budget, slots },
-            Err(CheckedFault::Certificate(fault)) => return not_certified(fault),
+            Ok(budget) => Told::Loaded { budget, slots },
+            Err(CheckedFault::Certificate(fault)) => not_certified(fault),
             Err(CheckedFault::Publication(fault)) => match fault {
-                PublishFault::NoMemory => return Told::Memory,
+                PublishFault::NoMemory => Told::Memory,
                 PublishFault::OtherShapes => unreachable!(),
             },
         }

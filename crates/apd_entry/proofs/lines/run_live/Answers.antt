@@ -1,21 +1,17 @@
-use Rattle.std.proofs.Common.{inl, inr, refl}
+use Rattle.std.proofs.Common.{inl, inr, refl, ◌∙◌}
 use Rattle.apd_words.specs.Asked.{text_of}
 use Rattle.apd_run.specs.NewRuns.{NotBegun}
-use Rattle.apd_entry.proofs.Formed.{runs_formed, runs_in_no_colours, runs_in_no_style}
+use Rattle.apd_entry.proofs.Formed.{runs_formed, runs_unformed}
 use Rattle.apd_entry.proofs.lines.run_live.Goals as goal
 
 pub returns-in_default : goal.returns-in_default
 returns-in_default g c =
-    record { runs = runs_in_no_style (g.F.Files.held c.args.files.now) c.args.asked.states c.args.asked.work c.args.streams.shown c.args.asked.strict (text_of c.args.asked.events) (text_of c.args.asked.color) (g.O.Write.contents c.args.streams.out) _ c.in_default.ensures.is (inl c.complain.ensures.is) }
-
-pub returns-in_default-colours_of : goal.returns-in_default-colours_of
-returns-in_default-colours_of g c =
-    record { runs = runs_in_no_colours (g.F.Files.held c.args.files.now) c.args.asked.states c.args.asked.work c.args.streams.shown c.args.asked.strict (text_of c.args.asked.events) (text_of c.args.asked.color) (g.O.Write.contents c.args.streams.out) _ c.in_default-colours_of.ensures.is (inl c.complain-in_default-colours_of.ensures.is) }
+    record { runs = runs_unformed (g.F.Files.held c.args.files.now) c.args.asked.states c.args.asked.work c.args.streams.shown c.args.asked.strict (text_of c.args.asked.events) (text_of c.args.asked.color) (g.O.Write.contents c.args.streams.out) _ c.in_default.ensures.is (inl (c.complain.ensures.is ∙ c.unformed.ensures.status)) }
 
 pub returns-in-Ok : goal.returns-in-Ok
 returns-in-Ok g c =
-    record { runs = runs_formed (g.F.Files.held c.args.files.now) c.args.asked.states c.args.asked.work c.args.streams.shown c.args.asked.strict _ _ (text_of c.args.asked.events) (text_of c.args.asked.color) _ _ _ c.in-Some.ensures.is c.in-Some-colours_of.ensures.is (rw c.nearest.ensures.value at c.live-in-Ok.ensures.runs) }
+    record { runs = runs_formed (g.F.Files.held c.args.files.now) c.args.asked.states c.args.asked.work c.args.streams.shown c.args.asked.strict c.in-Some.form (text_of c.args.asked.events) (text_of c.args.asked.color) _ _ _ c.in-Some.ensures.is (rw c.within.ensures.is at (rw c.words_of-words.ensures.manner at c.live-in-Ok.ensures.runs)) }
 
 pub returns-in-Err : goal.returns-in-Err
 returns-in-Err g c =
-    record { runs = runs_formed (g.F.Files.held c.args.files.now) c.args.asked.states c.args.asked.work c.args.streams.shown c.args.asked.strict _ _ (text_of c.args.asked.events) (text_of c.args.asked.color) (g.O.Write.contents c.args.streams.out) (g.O.Write.contents c.args.streams.out) _ c.in-Some.ensures.is c.in-Some-colours_of.ensures.is (NotBegun _ refl (inr c.complain-in-Err.ensures.is)) }
+    record { runs = runs_formed (g.F.Files.held c.args.files.now) c.args.asked.states c.args.asked.work c.args.streams.shown c.args.asked.strict c.in-Some.form (text_of c.args.asked.events) (text_of c.args.asked.color) (g.O.Write.contents c.args.streams.out) (g.O.Write.contents c.args.streams.out) _ c.in-Some.ensures.is (NotBegun _ refl (inr c.complain-in-Err.ensures.is)) }
