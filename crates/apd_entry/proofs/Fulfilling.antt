@@ -1,5 +1,5 @@
 -- What the program does where memory is short.
-use Rattle.std.proofs.Common.{◌≡◌, ℕ, Bool, List, Option, inr, refl}
+use Rattle.std.proofs.Common.{◌≡◌, ◌<◌, ⊥, ℕ, Bool, List, Option, arith, inr, refl}
 use Rattle.apd_run.specs.NewRuns.{NotRead}
 use Rattle.apd_files.specs.Held.{Held}
 use Rattle.apd_words.specs.Asked.{Wanted, Run as RunWanted, Live as LiveWanted, Answer as AnswerWanted}
@@ -21,3 +21,9 @@ pub Fulfils-told : (shown : Bool) (files : Held) (w : Wanted) (t : Told) (old ne
 Fulfils-told shown files w (told.Help text) old new status e tells = cc
 Fulfils-told shown files w (told.Fault text) old new status e tells = cc
 Fulfils-told shown files w told.NoMemory old new status e tells = rw (tells.0, tells.1) (Fulfils-nothing shown files w old)
+
+-- then the status says so
+pub told_in_vain : (t : Told) (old new : Option (List ℕ)) (status : ℕ) → t ≡ told.NoMemory → Tells t old new status → status < 2 → ⊥
+told_in_vain (told.Help text) old new status e tells few = cc
+told_in_vain (told.Fault text) old new status e tells few = cc
+told_in_vain told.NoMemory old new status e tells few = let is = tells.1 in omega (arith, is, few)

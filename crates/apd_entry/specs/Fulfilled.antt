@@ -9,7 +9,7 @@ use Rattle.apd_entry.specs.Captured.{lines_known}
 use Rattle.apd_entry.specs.Forms.{in_lines, RunsLive}
 
 -- what is wanted is done: a script runs from its first line, or lines as they come, whose answers a terminal shows or
--- doesn't; nothing is said of a capture in the place of the lines
+-- doesn't
 abbrev pub Fulfils : Bool → Held → Wanted → Option (List ℕ) → Option (List ℕ) → ℕ → Type 0
 Fulfils shown files (Answer a output) old new status = Performs files a output old new status
 Fulfils shown files (Run config script workers states work quiet strict verbose capture replaces) old new status =

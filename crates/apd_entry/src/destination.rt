@@ -27,7 +27,10 @@ pub(crate) fn is_in_place(capture: CaptureWords<'_>) -> bool
 }
 
 /// A capture that goes to `out`.
-pub(crate) fn in_place<O: Write + Drop>(alloc: Global, out: O) -> InPlace<O> {
+pub(crate) fn in_place<O: Write + Drop>(alloc: Global, out: O) -> InPlace<O>
+    ensures tape { result.capture.tape ≡ out }
+    ensures time { result.capture.time ≡ 0 }
+{
     Destination {
         lines: Unprinted,
         capture: Recorder::new(alloc, out),

@@ -1,12 +1,14 @@
 //! From words to a status: `apd` runs a script, or lines as they come, with threads, or answers a question.
 
-ghost use Rattle.std.specs.Prelude.{◌≡◌, map};
+ghost use Rattle.std.specs.Prelude.{◌≡◌, ◌<◌, true, map};
+ghost use Rattle.apd_driver.specs.Capturing.{AreKnown};
+ghost use Rattle.apd_run.specs.Captured.{KeepsScript};
 ghost use Rattle.apd_run.specs.NewRuns.{RunsScript};
 ghost use Rattle.apd_program.specs.Verifying.{within};
 ghost use Rattle.apd_words.specs.Asked.{Wanted, text_of};
 ghost use Rattle.apd_words.specs.Spells.{Spells};
 ghost use Rattle.apd_entry.specs.Fulfilled.{Fulfils};
-ghost use Rattle.apd_entry.specs.Captured.{lines_known};
+ghost use Rattle.apd_entry.specs.Captured.{AreWritten, CapturesInPlace, KeepsInPlace, is_in_place, lines_known};
 ghost use Rattle.apd_entry.specs.Forms.{in_lines, RunsLive};
 
 use crate::destination::{beside, in_place, is_in_place};
@@ -67,6 +69,9 @@ where
     ensures runs { RunsScript (F.held files.old) (within asked.entry.states asked.entry.work)
         asked.entry.script.now (in_lines asked.entry.strict)
         (P.contents out) (P.contents result.0) result.1 }
+    ensures keeps { result.1 < 2 → KeepsScript (F.held files.old) asked.entry.script.now
+        (AreKnown P.recorded) (in_lines asked.entry.strict).form
+        (P.contents out) (P.contents result.0) (P.recorded out) (P.recorded result.0) }
 {
     let Messages { err, watched } = messages;
     let words = words_of(asked);
@@ -106,6 +111,9 @@ where
         asked.entry.script.now (in_lines asked.entry.strict)
         (lines_known (text_of asked.entry.capture.path) (O.contents out))
         (lines_known (text_of asked.entry.capture.path) (O.contents result.0)) result.1 }
+    ensures captures { result.1 < 2 → is_in_place (text_of asked.entry.capture.path) ≡ true
+        → KeepsInPlace (AreWritten O.contents) (F.held files.old) asked.entry.script.now
+        (in_lines asked.entry.strict) (O.contents out) (O.contents result.0) }
 {
     if is_in_place(asked.capture) {
         let out = in_place(alloc, out);
@@ -201,6 +209,9 @@ where
     E: Write,
     ensures fulfils { (w : Wanted) → Spells (map (λ word. word.now) words.entry.now) w
         → Fulfils streams.shown (F.held files.old) w (O.contents streams.out) (O.contents result.0) result.1 }
+    ensures captures { (w : Wanted) → Spells (map (λ word. word.now) words.entry.now) w
+        → result.1 < 2 → CapturesInPlace (AreWritten O.contents) (F.held files.old) w
+        (O.contents streams.out) (O.contents result.0) }
 {
     match read_words(alloc, words) {
         Ok(Request::Run(asked)) => {
