@@ -21,5 +21,5 @@ pub use ap_shards::NewShards;
 pub use naming::Publications;
 pub use operator::LiveOperator;
 pub(crate) use running::run_live;
-pub use running::{Opening, Session, Supplies};
+pub use running::{Opening, Supplies};
 pub use worker::LiveWorker;

@@ -136,9 +136,9 @@ impl<'a, B: Ledgers + Journals, L: Publications, F: Files> LiveOperator<'a, B, L
         match self.loads.unload(rt, hook) {
             Ok(()) => {
                 self.programs.put(hook, None);
-                None
+                return None;
             }
-            Err(_) => Some(Told::Memory),
+            Err(_) => return Some(Told::Memory),
         }
     }
 
@@ -293,8 +293,8 @@ impl<'a, B: Ledgers + Journals, L: Publications, F: Files, G: Drop> Operating<
 
     fn submit<R: Wait>(&mut self, rt: &R, line: u64, event: Event) -> Result<(), Waiting> {
         match self.ap.submit(rt, &mut *self.token, line, event) {
-            Ok(()) => Ok(()),
-            Err(unserved) => Err(waiting_for(unserved)),
+            Ok(()) => return Ok(()),
+            Err(unserved) => return Err(waiting_for(unserved)),
         }
     }
 
@@ -308,26 +308,26 @@ impl<'a, B: Ledgers + Journals, L: Publications, F: Files, G: Drop> Operating<
                 }
                 let event = Event::Tick(units);
                 match self.ap.submit_at(rt, &mut *self.token, line, event, shard) {
-                    Ok(()) => Ok(()),
-                    Err(unserved) => Err(waiting_for(unserved)),
+                    Ok(()) => return Ok(()),
+                    Err(unserved) => return Err(waiting_for(unserved)),
                 }
             }
             event => match self.ap.submit(rt, &mut *self.token, line, event) {
-                Ok(()) => Ok(()),
-                Err(unserved) => Err(waiting_for(unserved)),
+                Ok(()) => return Ok(()),
+                Err(unserved) => return Err(waiting_for(unserved)),
             },
         }
     }
 
     fn publish<R: Wait>(&mut self, rt: &R, publication: Publication<'_>) -> Option<Told> {
         match publication {
-            Publication::Load { hook, path } => Some(self.load(rt, hook, path)),
+            Publication::Load { hook, path } => return Some(self.load(rt, hook, path)),
             Publication::Adopt {
                 hook,
                 path,
                 certificate,
-            } => Some(self.adopt(rt, hook, path, certificate)),
-            Publication::Unload(hook) => self.unload(rt, hook),
+            } => return Some(self.adopt(rt, hook, path, certificate)),
+            Publication::Unload(hook) => return self.unload(rt, hook),
         }
     }
 
@@ -335,10 +335,10 @@ impl<'a, B: Ledgers + Journals, L: Publications, F: Files, G: Drop> Operating<
         match wanted {
             WordUse::Store { word, value } => {
                 self.store(word, value);
-                None
+                return None;
             }
-            WordUse::Read(word) => self.read(word),
-            WordUse::Sum(word) => self.sum(word),
+            WordUse::Read(word) => return self.read(word),
+            WordUse::Sum(word) => return self.sum(word),
         }
     }
 

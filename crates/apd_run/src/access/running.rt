@@ -52,16 +52,8 @@ pub struct Opening {
     pub new: NewShards,
 }
 
-/// The lines that a run does, and the writer of what becomes of them.
-#[derive(Drop)]
-pub struct Session<S: Drop, P: Drop> {
-    pub lines: S,
-    pub writer: P,
-}
-
-/// An access point whose tokens were given out: these tokens, and the programs in force there.
-struct Equipped<'a, B: Ledgers + Journals> {
-    ap: &'a LiveAp<B>,
+/// The tokens of an access point, and the programs in force there.
+struct Equipment<B: Ledgers + Journals> {
     hands: Hands<B>,
     loads: Loads,
 }
@@ -111,6 +103,7 @@ where
 fn new_operator<'a, B, L, F>(
     ap: &'a LiveAp<B>,
     kept: Kept<B>,
+    parts: u64,
     workers: u64,
     loads: &'a mut Loads,
     sources: Sources<'a, F>,
@@ -120,13 +113,13 @@ where
     L: Publications,
     F: Files,
     requires new { IsNewOperator ap.now kept.token.value }
-    requires kept { HasParts kept.parts kept.hoard.value }
-    requires pages { HasPages kept.parts kept.pages.value }
-    requires enough { 1 < kept.parts }
+    requires kept { HasParts parts kept.hoard.value }
+    requires pages { HasPages parts kept.pages.value }
+    requires enough { 1 < parts }
     requires nothing { sum_of kept.hoard.value ≡ none }
     requires some { 0 < workers }
     requires each { length ap.now.queues ≡ workers }
-    requires all { kept.parts + workers + 1 ≡ parts_in_all }
+    requires all { parts + workers + 1 ≡ parts_in_all }
     requires shares { B.shares ≡ parts_in_all }
     requires list { loads.old.list ≡ L.list }
     requires no_loads { loads.old.loads ≡ [] }
@@ -138,7 +131,6 @@ where
         token,
         hoard,
         pages,
-        parts,
     } = kept;
     LiveOperator {
         ap,
@@ -159,9 +151,11 @@ where
 fn run_with<B, L, F, G, R, S, P>(
     rt: &R,
     alloc: Global,
-    equipped: Equipped<'_, B>,
+    ap: &LiveAp<B>,
+    equipment: Equipment<B>,
     supplies: Supplies<'_, F, G>,
-    session: Session<S, P>,
+    lines: S,
+    writer: P,
 ) -> (P, u8)
 where
     B: Ledgers + Journals + Send + Sync,
@@ -171,31 +165,32 @@ where
     R: Threads + Wait + Sync,
     S: Lines + Drop,
     P: Console + Drop,
-    requires hands { let hands = equipped.hands in
-        AreHands equipped.ap.now
-        hands.kept.token.value hands.workers.items hands.kept.hoard.value hands.kept.parts }
-    requires pages { HasPages equipped.hands.kept.parts equipped.hands.kept.pages.value }
+    requires hands { let hands = equipment.hands in
+        AreHands ap.now hands.kept.token.value hands.workers.items hands.kept.hoard.value hands.parts }
+    requires pages { HasPages equipment.hands.parts equipment.hands.kept.pages.value }
     requires shares { B.shares ≡ parts_in_all }
-    requires some { 0 < length equipped.ap.now.queues }
-    requires each { length equipped.ap.now.queues ≡ vec_len equipped.hands.workers }
-    requires list { equipped.ap.now.list.list ≡ L.list }
-    requires loads { equipped.loads.list ≡ L.list }
-    requires no_loads { equipped.loads.loads ≡ [] }
+    requires some { 0 < length ap.now.queues }
+    requires each { length ap.now.queues ≡ vec_len equipment.hands.workers }
+    requires list { ap.now.list.list ≡ L.list }
+    requires loads { equipment.loads.list ≡ L.list }
+    requires no_loads { equipment.loads.loads ≡ [] }
     ensures runs { RunsNew (F.held supplies.entry.files.now) supplies.entry.limits
-        (P.manner session.writer) (S.script session.lines)
-        (P.contents session.writer) (P.contents result.0) result.1 }
-    ensures keeps { result.1 < 2 → KeepsWhole (P.manner session.writer).form (S.script session.lines)
-        (P.contents session.writer) (P.contents result.0)
-        (P.recorded session.writer) (P.recorded result.0) }
+        (P.manner writer) (S.script lines) (P.contents writer) (P.contents result.0) result.1 }
+    ensures keeps { result.1 < 2 → KeepsWhole (P.manner writer).form (S.script lines)
+        (P.contents writer) (P.contents result.0)
+        (P.recorded writer) (P.recorded result.0) }
 {
     let Supplies {
         files,
         limits,
         gate,
     } = supplies;
-    let Equipped { ap, hands, loads } = equipped;
-    let Hands { kept, workers } = hands;
-    let Session { lines, writer } = session;
+    let Equipment { hands, loads } = equipment;
+    let Hands {
+        kept,
+        workers,
+        parts,
+    } = hands;
     let mut loads = loads;
     let Ok(ready) = ready_workers::<B, L, G>(alloc, ap, gate, workers) else {
         // Dropped by a call, since it has many parts.
@@ -205,7 +200,7 @@ where
     };
     let many = ready.len() as u64;
     let sources = Sources { files, limits };
-    let operator = new_operator::<B, L, F>(ap, kept, many, &mut loads, sources);
+    let operator = new_operator::<B, L, F>(ap, kept, parts, many, &mut loads, sources);
     let staff = Staff {
         operator,
         workers: ready,
@@ -221,7 +216,8 @@ pub(crate) fn run_live<B, F, G, R, S, P>(
     alloc: Global,
     opening: Opening,
     supplies: Supplies<'_, F, G>,
-    session: Session<S, P>,
+    lines: S,
+    writer: P,
 ) -> (P, u8)
 where
     B: Ledgers + Journals + Send + Sync,
@@ -237,11 +233,10 @@ where
     requires config { opening.settings.link ≡ B.config }
     requires shares { B.shares ≡ parts_in_all }
     ensures runs { RunsNew (F.held supplies.entry.files.now) supplies.entry.limits
-        (P.manner session.writer) (S.script session.lines)
-        (P.contents session.writer) (P.contents result.0) result.1 }
-    ensures keeps { result.1 < 2 → KeepsWhole (P.manner session.writer).form (S.script session.lines)
-        (P.contents session.writer) (P.contents result.0)
-        (P.recorded session.writer) (P.recorded result.0) }
+        (P.manner writer) (S.script lines) (P.contents writer) (P.contents result.0) result.1 }
+    ensures keeps { result.1 < 2 → KeepsWhole (P.manner writer).form (S.script lines)
+        (P.contents writer) (P.contents result.0)
+        (P.recorded writer) (P.recorded result.0) }
 {
     let Opening {
         settings,
@@ -250,7 +245,7 @@ where
     } = opening;
     let workers = settings.workers as usize;
     let Ok(opened) = LiveAp::<B>::open(rt, alloc, settings, new) else {
-        return without_memory(session.writer);
+        return without_memory(writer);
     };
     let Opened {
         mut ap,
@@ -260,12 +255,8 @@ where
     let loads = Loads::new(alloc, publisher, shapes);
     let Ok(hands) = deal(&mut ap, alloc, left, workers) else {
         loads.close(rt);
-        return without_memory(session.writer);
+        return without_memory(writer);
     };
-    let equipped = Equipped {
-        ap: &ap,
-        hands,
-        loads,
-    };
-    run_with::<B, Brand, F, G, R, S, P>(rt, alloc, equipped, supplies, session)
+    let equipment = Equipment { hands, loads };
+    run_with::<B, Brand, F, G, R, S, P>(rt, alloc, &ap, equipment, supplies, lines, writer)
 }

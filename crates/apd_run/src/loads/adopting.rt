@@ -74,10 +74,13 @@ impl Loads {
             return Told::Memory;
         };
         match decode(self.alloc, code, shapes) {
-            Ok(program) => self.adopt_program(rt, hook, program, certificate, work),
+            Ok(program) => {
+                let told = self.adopt_program(rt, hook, program, certificate, work);
+                return told;
+            }
             Err(fault) => match fault {
-                DecodeFault::NoMemory => Told::Memory,
-                _ => Told::Fault(fault),
+                DecodeFault::NoMemory => return Told::Memory,
+                _ => return Told::Fault(fault),
             },
         }
     }
@@ -100,10 +103,10 @@ impl Loads {
             certificate,
         };
         match publish_checked_within(rt, self.alloc, &mut self.publisher, offer, work) {
-            Ok(budget) => Told::Loaded { budget, slots },
-            Err(CheckedFault::Certificate(fault)) => not_certified(fault),
+            Ok(budget) => return Told::Loaded { budget, slots },
+            Err(CheckedFault::Certificate(fault)) => return not_certified(fault),
             Err(CheckedFault::Publication(fault)) => match fault {
-                PublishFault::NoMemory => Told::Memory,
+                PublishFault::NoMemory => return Told::Memory,
                 PublishFault::OtherShapes => unreachable!(),
             },
         }

@@ -83,10 +83,13 @@ impl Loads {
         ensures same { F.held files.new ≡ F.held files.old }
     {
         match read_code(self.alloc, path, files) {
-            Ok(code) => self.load_code(rt, hook, code.as_slice(), limits),
+            Ok(code) => {
+                let told = self.load_code(rt, hook, code.as_slice(), limits);
+                return told;
+            }
             Err(fault) => match fault {
-                CodeFault::NoMemory => Told::Memory,
-                _ => Told::Unreadable(Unread::Code(fault)),
+                CodeFault::NoMemory => return Told::Memory,
+                _ => return Told::Unreadable(Unread::Code(fault)),
             },
         }
     }
@@ -116,10 +119,13 @@ impl Loads {
             return Told::Memory;
         };
         match decode(self.alloc, code, shapes) {
-            Ok(program) => self.load_program(rt, hook, program, limits),
+            Ok(program) => {
+                let told = self.load_program(rt, hook, program, limits);
+                return told;
+            }
             Err(fault) => match fault {
-                DecodeFault::NoMemory => Told::Memory,
-                _ => Told::Fault(fault),
+                DecodeFault::NoMemory => return Told::Memory,
+                _ => return Told::Fault(fault),
             },
         }
     }
@@ -135,10 +141,13 @@ impl Loads {
         ensures { LoadsProgram limits hook program self.old self.new result }
     {
         match verify_limited(self.alloc, program, hook, limits) {
-            Ok(accepted) => self.put_in_force(rt, hook, accepted),
+            Ok(accepted) => {
+                let told = self.put_in_force(rt, hook, accepted);
+                return told;
+            }
             Err(refusal) => match refusal.fault {
-                Fault::NoMemory => Told::Memory,
-                _ => refused_told(refusal),
+                Fault::NoMemory => return Told::Memory,
+                _ => return refused_told(refusal),
             },
         }
     }
@@ -154,8 +163,8 @@ impl Loads {
             return Told::Memory;
         };
         match self.publisher.publish(rt, hook, Some(shared)) {
-            Ok(()) => Told::Loaded { budget, slots },
-            Err(PublishFault::NoMemory) => Told::Memory,
+            Ok(()) => return Told::Loaded { budget, slots },
+            Err(PublishFault::NoMemory) => return Told::Memory,
             Err(PublishFault::OtherShapes) => unreachable!(),
         }
     }

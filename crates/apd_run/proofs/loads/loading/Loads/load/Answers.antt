@@ -6,7 +6,7 @@ use Rattle.apd_run.proofs.loads.loading.Loads.load.Goals as goal
 pub returns-in-Ok-clause-loads : goal.returns-in-Ok-clause-loads
 returns-in-Ok-clause-loads g c =
     let h = c.in-Ok.ensures.code in
-    Read h.code c.load_code.result h.held (LoadsCode-kept _ _ _ _ h.code _ _ h.keeps (rw c.as_slice.ensures.value at c.load_code.ensures))
+    Read h.code c.load_code-told.result h.held (LoadsCode-kept _ _ _ _ h.code _ _ h.keeps (rw c.as_slice.ensures.value at c.load_code-told.ensures))
 
 pub returns-in-NoMemory-clause-loads : goal.returns-in-NoMemory-clause-loads
 returns-in-NoMemory-clause-loads g c = NoRoomToRead refl

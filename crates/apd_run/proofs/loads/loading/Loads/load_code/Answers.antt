@@ -8,8 +8,8 @@ returns-in_default g c = NoRoomToDecode refl
 
 pub returns-in-Ok-decode : goal.returns-in-Ok-decode
 returns-in-Ok-decode g c =
-    Decoded c.in-Ok-decode.program c.load_program.result c.in-Ok-decode.ensures.ok
-    (c.in-Ok-decode.ensures.shapes ∙ c.in-Ok.ensures.is) c.load_program.ensures
+    Decoded c.in-Ok-decode.program c.load_program-told.result c.in-Ok-decode.ensures.ok
+    (c.in-Ok-decode.ensures.shapes ∙ c.in-Ok.ensures.is) c.load_program-told.ensures
 
 pub returns-in-NoMemory : goal.returns-in-NoMemory
 returns-in-NoMemory g c = NoRoomToDecode refl

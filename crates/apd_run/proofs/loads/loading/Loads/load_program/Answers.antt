@@ -16,4 +16,4 @@ returns-in_default g c =
     }))
 
 pub returns-in-Ok : goal.returns-in-Ok
-returns-in-Ok g c = loaded _ _ c.in-Ok.accepted _ _ _ _ c.in-Ok.ensures.code c.in-Ok.ensures.budget.small c.put_in_force.ensures
+returns-in-Ok g c = loaded _ _ c.in-Ok.accepted _ _ _ _ c.in-Ok.ensures.code c.in-Ok.ensures.budget.small c.put_in_force-told.ensures
