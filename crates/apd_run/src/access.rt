@@ -18,7 +18,7 @@ mod worker;
 pub use crate::loads::{Limits, StateLimit};
 pub use ap_live::{Gate, OpenGate, Settings};
 pub use ap_shards::NewShards;
-pub use naming::Publications;
+pub use naming::Names;
 pub use operator::LiveOperator;
 pub(crate) use running::run_live;
 pub use running::{Opening, Supplies};
