@@ -1,6 +1,6 @@
 -- What became of a worker's events, and the histories of the shards.
 use Rattle.std.proofs.Common.{◌≡◌, ◌<◌, ℕ, Bool, true, false, List, [], ◌∷◌, ◌++◌, map, refl, sym, ap, subst, ◌∙◌, append_assoc, append-nil}
-use Rattle.std.specs.Prelude.{◌==◌}
+use Rattle.std.specs.Prelude.{◌==◌, slice_index_or}
 use Rattle.std.specs.List.{All}
 use Rattle.std.proofs.lemmas.List.{map-append}
 use Rattle.std.proofs.lemmas.List.Elements.{All-append, All-cons, All-nil, All-same}
@@ -29,7 +29,12 @@ use Rattle.ap_live.proofs.Growing.{by_shard}
 use Rattle.ap_live.specs.Verdicts.{AreJudged}
 use Rattle.versions.specs.declared.list.Load.{Load}
 use Rattle.versions.specs.Sets.{set_of}
-use Rattle.apd_run.specs.Deciding.{Accounts, Concerns, Deed, IsHistory, WasJudged, deed_of, deeds_at, histories_of, with_deed}
+use Rattle.ap_queues.specs.Items.{Item}
+use Rattle.ap_queues.specs.Lines.{AreAllTakenAt, puts_of}
+use Rattle.ap_queues.specs.declared.lines.passes.OperatorLines.{OperatorLines}
+use Rattle.ap_queues.specs.Passes.{taken_by}
+use Rattle.ap_queues.specs.Queues.{items_of}
+use Rattle.apd_run.specs.Deciding.{Accounts, AreOfQueue, Concerns, Deed, IsHistory, WasJudged, deed_of, deeds_at, histories_of, items_in, TookOf, with_deed}
 use Rattle.apd_run.proofs.Judging.{are_judged}
 
 -- ---- what is told of events, list by list
@@ -83,7 +88,7 @@ module _ (config : Config) (a : Live) (worker : ℕ) where
       let m : Progress = r.0 in
       let b = r.1.became in
       let V : Readings → List (Ask × ℕ) → Type 0 = JudgedBy a.stock.maps worker m.seen.loads p.held m.held in
-      let judges : Judges V m.seen.loads = λ readings asked v. are_judged _ m.seen.loads p.held m.held asked v.verdicts in
+      let judges : Judges V m.seen.loads = λ readings asked v. are_judged a worker readings.clock v.stations m.seen.loads p.held m.held asked v.verdicts in
       let e : Event = t.item.event in
       by_shard (λ s. Adds (token_at s m.shards) (deeds_at s ts) (token_at s q.shards) → Adds (token_at s p.shards) (deeds_at s (t ∷ ts)) (token_at s q.shards))
       (adds_one V m.seen.loads judges (rules t.item.shard config) e t.fate (t.item.shard == 0) p.shards.of0 m.shards.of0 q.shards.of0 (deeds_at 0 ts) b.came.of0)
@@ -98,6 +103,12 @@ module _ (config : Config) (a : Live) (worker : ℕ) where
   adds_all s low p [] (t ∷ ts) q r = absurd r
   adds_all s low p (x ∷ xs) [] q r = absurd r
 
+  same_items : (p : Progress) (items : List Queued) (tags : List Tagged) (q : Progress) → ServesAll config a worker p items tags q → items_in tags ≡ items_of items
+  same_items p [] [] q is = refl
+  same_items p (x ∷ xs) (t ∷ ts) q r = λ i. r.1.item i ∷ same_items r.0 xs ts q r.2 i
+  same_items p [] (t ∷ ts) q r = absurd r
+  same_items p (x ∷ xs) [] q r = absurd r
+
   all_concern : (p : Progress) (items : List Queued) (tags : List Tagged) (q : Progress) → ServesAll config a worker p items tags q → All Concerns tags
   all_concern p [] [] q is = All-nil Concerns
   all_concern p (x ∷ xs) (t ∷ ts) q r = All-cons Concerns t ts r.1.told (all_concern r.0 xs ts q r.2)
@@ -108,7 +119,13 @@ module _ (config : Config) (a : Live) (worker : ℕ) where
 pub accounts_more : (config : Config) (a : Live) (w w2 : Worker) (l l2 : List Tagged) → Served config a w w2 l l2 → Accounts w l → Accounts w2 l2
 accounts_more config a w w2 l l2 s h =
     let more : All Concerns s.tags = all_concern config a w.number (progress_of w) s.items s.tags (progress_of w2) s.served in
+    let items : items_in s.tags ≡ items_of s.items = same_items config a w.number (progress_of w) s.items s.tags (progress_of w2) s.served in
     record {
+      before = h.before;
+      items = h.items ++ s.items;
+      taken = s.took ∙ (ap (λ (x : List Queued). x ++ s.items) h.taken ∙ append_assoc h.before h.items s.items);
+      same = ap items_in s.listed
+          ∙ (map-append (λ (t : Tagged). t.item) l s.tags ∙ ((λ i. h.same i ++ items i) ∙ sym (map-append (λ (x : Queued). x.item) h.items s.items)));
       told = All-same Concerns l2 (l ++ s.tags) s.listed (All-append Concerns l s.tags h.told more);
       deeds = λ n low.
           let d = adds_all config a w.number n low (progress_of w) s.items s.tags (progress_of w2) s.served in
@@ -125,19 +142,53 @@ accounts_more config a w w2 l l2 s h =
 pub accounts_none : (w : Worker) (l : List Tagged) → l ≡ [] → ((s : ℕ) → s < 8 → (token_at s w.shards).own ≡ []) → Accounts w l
 accounts_none w l empty none =
     record {
+      before = taken_by w.pass;
+      items = [];
+      taken = sym (append-nil (taken_by w.pass));
+      same = ap items_in empty;
       told = All-same Concerns l [] empty (All-nil Concerns);
       deeds = λ s low. ap (map deed_of) (none s low) ∙ ap (deeds_at s) (sym empty);
       judged = λ s low. All-same WasJudged (token_at s w.shards).own [] (none s low) (All-nil WasJudged);
     }
 
--- a worker with the same entries of its own
-pub accounts_same : (w w2 : Worker) (l : List Tagged) → ((s : ℕ) → s < 8 → (token_at s w2.shards).own ≡ (token_at s w.shards).own) → Accounts w l → Accounts w2 l
-accounts_same w w2 l same h =
+-- a worker that took nothing more, with the same entries of its own
+pub accounts_same : (w w2 : Worker) (l : List Tagged) → taken_by w2.pass ≡ taken_by w.pass → ((s : ℕ) → s < 8 → (token_at s w2.shards).own ≡ (token_at s w.shards).own) → Accounts w l → Accounts w2 l
+accounts_same w w2 l taken same h =
     record {
+      before = h.before;
+      items = h.items;
+      taken = taken ∙ h.taken;
+      same = h.same;
       told = h.told;
       deeds = λ s low. ap (map deed_of) (same s low) ∙ h.deeds s low;
       judged = λ s low. All-same WasJudged (token_at s w2.shards).own (token_at s w.shards).own (same s low) (h.judged s low);
     }
+
+-- events of a worker that took only what was put
+pub of_queue : (puts : List (List Item)) (w : Worker) (l : List Tagged) → TookOf puts w → Accounts w l → AreOfQueue puts l
+of_queue puts w l t h =
+    let both : items_of (taken_by w.pass) ≡ items_of h.before ++ items_in l =
+    ap items_of h.taken ∙ (map-append (λ (x : Queued). x.item) h.before h.items ∙ ap (λ (x : List Item). items_of h.before ++ x) (sym h.same)) in
+    record {
+      worker = w.number;
+      before = items_of h.before;
+      rest = t.rest;
+      put = t.put ∙ (ap (λ (x : List Item). x ++ t.rest) both ∙ append_assoc (items_of h.before) (items_in l) t.rest);
+    }
+
+-- the same worker with other tokens of the shards
+took_same : (puts : List (List Item)) (w : Worker) (e : Eight) → TookOf puts w → TookOf puts (record w { shards = e })
+took_same puts w e t = record { rest = t.rest; put = t.put }
+
+pub took_still : (puts : List (List Item)) (w w2 : Worker) → w2 ≡ record w { shards = w2.shards } → TookOf puts w → TookOf puts w2
+took_still puts w w2 same t = subst (λ (x : Worker). TookOf puts x) (sym same) (took_same puts w w2.shards t)
+
+-- a worker that met the only operator
+pub took_alone : (lines lines2 : OperatorLines) (w w2 : Worker) → puts_of lines2 ≡ puts_of lines → w2 ≡ record w { pass = w2.pass } → taken_by w2.pass ≡ taken_by w.pass → AreAllTakenAt w.number lines w.pass
+    → TookOf (puts_of lines2) w2
+took_alone lines lines2 w w2 puts same taken a =
+    let number : w2.number ≡ w.number = ap (λ (x : Worker). x.number) same in
+    record { rest = a.rest; put = (λ i. slice_index_or (puts i) (number i) []) ∙ (a.put ∙ ap (λ (x : List Queued). items_of x ++ a.rest) (sym taken)) }
 
 -- ---- entries of one's own
 
@@ -169,7 +220,7 @@ seen_alike a b h = by_shard (λ s. histories_of a s ≡ histories_of b s) h.0 h.
 pub met_histories : (config : Config) (w o : Eight) → HaveSeenAlike w o → UpholdAll config w → (s : ℕ) → s < 8 → IsHistory s config (histories_of o s)
 met_histories config w o alike up s low =
     let u = up s low in
-    subst (λ (l : List Entry). IsHistory s config l) (seen_alike w o alike s low) (record { readings = u.readings; holds = u.holds })
+    subst (λ (l : List Entry). IsHistory s config l) (seen_alike w o alike s low) (record { readings = u.readings; run = u.holds.run })
 
 pub met_among : (config : Config) (w o : Eight) → HaveSeenAlike w o → UpholdAll config w → (s : ℕ) → s < 8 → IsAmong (token_at s w).own (histories_of o s)
 met_among config w o alike up s low =

@@ -5,26 +5,31 @@ use Rattle.ap_books.specs.Counts.{none}
 use Rattle.ap_books.specs.Holdings.{Holding, HasParts, sum_of}
 use Rattle.ap_shards.specs.Tokens.{Eight, KeepOwn, holding_of}
 use Rattle.ap_live.specs.Counting.{counted_by}
+use Rattle.ap_queues.specs.Passes.{taken_by}
+use Rattle.ap_live.specs.Lives.{Live}
 use Rattle.ap_live.specs.Serving.{Served}
 use Rattle.ap_live.specs.Tokens.{Operator, IsOperator, Worker, IsWorker}
 use Rattle.ap_live.specs.Upholding.{token_at}
 use Rattle.ap_live.specs.declared.tagged.Tagged.{Tagged}
-use Rattle.logbook.specs.Pages.{Book}
 use Rattle.versions.specs.Lists.{Beginning}
 use Rattle.hook_judge.specs.Sums.{no_counts}
 use Rattle.apd_run.specs.InForce.{AreInForce}
 use Rattle.apd_run.specs.declared.access.program_counts.ProgramCounts.{ProgramCounts}
+use Rattle.ap_queues.specs.declared.lines.passes.LinePasses.{LinePasses}
+use Rattle.apd_run.specs.Dealing.{AreRest}
 use Rattle.apd_run.specs.Hands.{RunOperator, IsRunOperator, RunWorker, IsRunWorker}
 use Rattle.apd_run.proofs.Deciding.{accounts_more, accounts_none, accounts_same, kept_own}
 use Rattle.apd_run.proofs.Served.{more_counted, nothing_counted}
 use Rattle.apd_run.proofs.Sums.{keeps_parts}
 
 -- an operator whose token has the same parts of the ledgers
-pub other_token : {F : Type 0} → (shares : ℕ) (list : Book) (o : RunOperator F) (t : Operator) → IsOperator o.ap t → t.shards ≡ o.token.shards → IsRunOperator shares list o
-    → IsRunOperator shares list (record o { token = t })
-other_token shares list o t own same h =
+pub other_token : {F : Type 0} → (shares : ℕ) (place : Live) (o : RunOperator F) (t : Operator) → IsOperator o.ap t → t.shards ≡ o.token.shards → IsRunOperator shares place o
+    → IsRunOperator shares place (record o { token = t })
+other_token shares place o t own same h =
     record {
       own = own;
+      ap_is = h.ap_is;
+      rest = h.rest;
       mine = subst (λ (e : Eight). HasParts 1 (holding_of e)) (sym same) h.mine;
       nothing = ap counted_by same ∙ h.nothing;
       parts = h.parts;
@@ -38,11 +43,13 @@ other_token shares list o t own same h =
     }
 
 -- an operator whose loads are of the same list, with the counts of their programs
-pub other_loads : {F : Type 0} → (shares : ℕ) (list : Book) (o : RunOperator F) (f : F) (b : Beginning) (programs : ProgramCounts) → b.list ≡ o.loads.list → AreInForce programs b.loads
-    → IsRunOperator shares list o → IsRunOperator shares list (record o { loads = b; programs = programs; files = f })
-other_loads shares list o f b programs same in_force h =
+pub other_loads : {F : Type 0} → (shares : ℕ) (place : Live) (o : RunOperator F) (f : F) (b : Beginning) (programs : ProgramCounts) → b.list ≡ o.loads.list → AreInForce programs b.loads
+    → IsRunOperator shares place o → IsRunOperator shares place (record o { loads = b; programs = programs; files = f })
+other_loads shares place o f b programs same in_force h =
     record {
       own = h.own;
+      ap_is = h.ap_is;
+      rest = h.rest;
       mine = h.mine;
       nothing = h.nothing;
       parts = h.parts;
@@ -61,35 +68,35 @@ uncounted w = record w { held = record w.held { counts = no_counts } }
 
 -- a worker whose token has other parts of the ledgers, one of each, which have counted nothing, no counts of its programs'
 -- runs, and no entries of its own
-pub other_parts : (list : Book) (w : RunWorker) (t : Worker) (fresh : Holding) (handled : List Tagged) → t ≡ record (uncounted w.token) { shards = t.shards } → holding_of t.shards ≡ fresh
-    → HasParts 1 fresh → sum_of fresh ≡ none → handled ≡ [] → ((s : ℕ) → s < 8 → (token_at s t.shards).own ≡ []) → IsRunWorker list w → IsRunWorker list (record w { token = t; handled = handled })
-other_parts list w t fresh handled same taken one nothing empty unowned h =
+pub other_parts : (place : Live) (w : RunWorker) (t : Worker) (fresh : Holding) (handled : List Tagged) → t ≡ record (uncounted w.token) { shards = t.shards } → holding_of t.shards ≡ fresh
+    → HasParts 1 fresh → sum_of fresh ≡ none → handled ≡ [] → ((s : ℕ) → s < 8 → (token_at s t.shards).own ≡ []) → IsRunWorker place w → IsRunWorker place (record w { token = t; handled = handled })
+other_parts place w t fresh handled same taken one nothing empty unowned h =
     record {
       own = subst (IsWorker w.ap) (sym same) (record { number = h.own.number; pass = h.own.pass; list = h.own.list; fitting = h.own.fitting });
-      list_is = h.list_is;
+      ap_is = h.ap_is;
       parts = subst (HasParts 1) (sym taken) one;
       counts = nothing_counted _ _ (ap sum_of taken ∙ nothing) empty;
       accounts = accounts_none t handled empty unowned;
     }
 
--- a worker whose token has the same parts of the ledgers
-pub same_parts : (list : Book) (w : RunWorker) (t : Worker) → IsWorker w.ap t → t.shards ≡ w.token.shards → IsRunWorker list w → IsRunWorker list (record w { token = t })
-same_parts list w t own same h =
+-- a worker whose token has the same parts of the ledgers, and took nothing more
+pub same_parts : (place : Live) (w : RunWorker) (t : Worker) → IsWorker w.ap t → taken_by t.pass ≡ taken_by w.token.pass → t.shards ≡ w.token.shards → IsRunWorker place w → IsRunWorker place (record w { token = t })
+same_parts place w t own taken same h =
     record {
       own = own;
-      list_is = h.list_is;
+      ap_is = h.ap_is;
       parts = subst (λ (e : Eight). HasParts 1 (holding_of e)) (sym same) h.parts;
       counts = ap counted_by same ∙ h.counts;
-      accounts = accounts_same w.token t w.handled (λ s low. ap (λ (e : Eight). (token_at s e).own) same) h.accounts;
+      accounts = accounts_same w.token t w.handled taken (λ s low. ap (λ (e : Eight). (token_at s e).own) same) h.accounts;
     }
 
 -- a worker that served
-pub served_worker : (config : Config) (list : Book) (w : RunWorker) (t : Worker) (handled : List Tagged) → IsWorker w.ap t → Served config w.ap w.token t w.handled handled
-    → IsRunWorker list w → IsRunWorker list (record w { token = t; handled = handled })
-served_worker config list w t handled own served h =
+pub served_worker : (config : Config) (place : Live) (w : RunWorker) (t : Worker) (handled : List Tagged) → IsWorker w.ap t → Served config w.ap w.token t w.handled handled
+    → IsRunWorker place w → IsRunWorker place (record w { token = t; handled = handled })
+served_worker config place w t handled own served h =
     record {
       own = own;
-      list_is = h.list_is;
+      ap_is = h.ap_is;
       parts = keeps_parts 1 w.token.shards t.shards served.parts h.parts;
       counts = more_counted _ _ _ _ served.tags h.counts served.listed served.counted;
       accounts = accounts_more config w.ap w.token t w.handled handled served h.accounts;
@@ -112,11 +119,13 @@ kept_holding a b k i =
     }
 
 -- an operator that may have seen more
-pub met_operator : {F : Type 0} → (shares : ℕ) (list : Book) (o : RunOperator F) (t : Operator) → t ≡ record o.token { shards = t.shards } → KeepOwn o.token.shards t.shards → IsRunOperator shares list o
-    → IsRunOperator shares list (record o { token = t })
-met_operator shares list o t same k h =
+pub met_operator : {F : Type 0} → (shares : ℕ) (place : Live) (o : RunOperator F) (t : Operator) → t ≡ record o.token { shards = t.shards } → KeepOwn o.token.shards t.shards → IsRunOperator shares place o
+    → IsRunOperator shares place (record o { token = t })
+met_operator shares place o t same k h =
     record {
       own = subst (IsOperator o.ap) (sym same) (record { lines = h.own.lines; seats = h.own.seats });
+      ap_is = h.ap_is;
+      rest = h.rest;
       mine = subst (HasParts 1) (sym (kept_holding o.token.shards t.shards k)) h.mine;
       nothing = ap sum_of (kept_holding o.token.shards t.shards k) ∙ h.nothing;
       parts = h.parts;
@@ -130,12 +139,32 @@ met_operator shares list o t same k h =
     }
 
 -- a worker that may have seen more
-pub met_worker : (list : Book) (w : RunWorker) (t : Worker) → t ≡ record w.token { shards = t.shards } → KeepOwn w.token.shards t.shards → IsRunWorker list w → IsRunWorker list (record w { token = t })
-met_worker list w t same k h =
+pub met_worker : (place : Live) (w : RunWorker) (t : Worker) → t ≡ record w.token { shards = t.shards } → KeepOwn w.token.shards t.shards → IsRunWorker place w → IsRunWorker place (record w { token = t })
+met_worker place w t same k h =
     record {
       own = subst (IsWorker w.ap) (sym same) (record { number = h.own.number; pass = h.own.pass; list = h.own.list; fitting = h.own.fitting });
-      list_is = h.list_is;
+      ap_is = h.ap_is;
       parts = subst (HasParts 1) (sym (kept_holding w.token.shards t.shards k)) h.parts;
       counts = ap sum_of (kept_holding w.token.shards t.shards k) ∙ h.counts;
-      accounts = accounts_same w.token t w.handled (kept_own w.token.shards t.shards k) h.accounts;
+      accounts = accounts_same w.token t w.handled (ap (λ (x : Worker). taken_by x.pass) same) (kept_own w.token.shards t.shards k) h.accounts;
+    }
+
+-- an operator whose token met a worker at its queue
+pub queue_operator : {F : Type 0} → (shares : ℕ) (place : Live) (o : RunOperator F) (t : Operator) (passes : LinePasses) → IsOperator o.ap t → t.shards ≡ o.token.shards → AreRest o.ap passes
+    → IsRunOperator shares place o → IsRunOperator shares place (record o { token = t; passes = passes })
+queue_operator shares place o t passes own same rest h =
+    record {
+      own = own;
+      ap_is = h.ap_is;
+      rest = rest;
+      mine = subst (λ (e : Eight). HasParts 1 (holding_of e)) (sym same) h.mine;
+      nothing = ap counted_by same ∙ h.nothing;
+      parts = h.parts;
+      pages = h.pages;
+      all = h.all;
+      shares_are = h.shares_are;
+      some = h.some;
+      list_is = h.list_is;
+      reads = h.reads;
+      in_force = h.in_force;
     }

@@ -1,9 +1,9 @@
 pub mod KeptCode
 pub mod Putting
 pub mod Sums
-pub mod Served
 pub mod Judging
 pub mod Deciding
+pub mod Served
 pub mod Keeping
 pub mod Operated
 pub mod NewRuns

@@ -182,15 +182,19 @@ module _ {F : Type 0} (held : F → Held) where
   works o old w is = ap (λ (x : RunOperator F). with_work (crew_of held x) w) is
 
   -- a token that has put nothing more, and seen nothing more
-  pub same_lines : (o old : RunOperator F) (t m : Operator) → o ≡ old → m ≡ o.token → t.lines ≡ m.lines → t.shards ≡ m.shards → crew_of held (record o { token = t }) ≡ crew_of held old
-  same_lines o old t m is token same still =
-      let put : puts_of t.lines ≡ puts_of o.token.lines = ap puts_of (same ∙ ap (λ (x : Operator). x.lines) token) in
+  pub same_puts : (o old : RunOperator F) (t m : Operator) → o ≡ old → m ≡ o.token → puts_of t.lines ≡ puts_of m.lines → t.shards ≡ m.shards → crew_of held (record o { token = t }) ≡ crew_of held old
+  same_puts o old t m is token same still =
+      let put : puts_of t.lines ≡ puts_of o.token.lines = same ∙ ap (λ (x : Operator). puts_of x.lines) token in
       let shards : t.shards ≡ o.token.shards = still ∙ ap (λ (x : Operator). x.shards) token in
       (λ i. record {
         workers = o.workers;
         counted = sum_of o.hoard;
         work = record { files = held o.files; limits = o.limits; config = o.config; puts = put i; histories = histories_of (shards i); loads = o.loads };
       }) ∙ ap (crew_of held) is
+
+  -- the same with the same handles
+  pub same_lines : (o old : RunOperator F) (t m : Operator) → o ≡ old → m ≡ o.token → t.lines ≡ m.lines → t.shards ≡ m.shards → crew_of held (record o { token = t }) ≡ crew_of held old
+  same_lines o old t m is token same still = same_puts o old t m is token (ap puts_of same) still
 
   -- a token that has put nothing more, and may have seen more
   pub sees_more : (o old : RunOperator F) (t m : Operator) → o ≡ old → m ≡ o.token → t ≡ record m { shards = t.shards } → KeepOwn m.shards t.shards → Sees (work_of held old) (work_of held (record o { token = t }))

@@ -12,11 +12,12 @@ use Rattle.ap_live.specs.Upholding.{token_at}
 use Rattle.ap_live.specs.declared.tagged.Tagged.{Tagged}
 use Rattle.apd_driver.specs.Crews.{Collects, Crew, Works, gains, with_work}
 use Rattle.apd_driver.specs.Following.{FromNone, FromOneMore, TakesAll}
-use Rattle.apd_run.specs.Deciding.{Accounts}
+use Rattle.apd_run.specs.Deciding.{Accounts, TookOf}
 use Rattle.apd_run.specs.Reports.{Handled, Memory, Report}
 use Rattle.apd_driver.specs.Tallies.{report_counts, tallied, told_counts}
 use Rattle.apd_run.specs.Telling.{dropped_in, report_if, reports_in, reports_of, told_of}
 use Rattle.apd_run.specs.Work.{Meets, Takes, Work, live}
+use Rattle.apd_run.proofs.Deciding.{of_queue}
 use Rattle.apd_run.proofs.Sums.{none_plus, plus_three}
 
 -- ---- what reports count
@@ -58,13 +59,14 @@ told_counted (t ∷ ts) =
     ∙ (ap (λ (c : Counts). plus c (tallied (reports_in ts))) (report_counted t.item.call t.item.shard t.item.event t.fate) ∙ ap (λ (c : Counts). plus (fate_counts t.fate) c) (told_counted ts))
 
 -- a worker was met and came back, and the reports on its list were appended
-pub collects_met : (crew mid crew2 : Crew live) (list list2 : List Report) (w : Worker) (tags : List Tagged) → Works crew mid → Meets crew.work mid.work w → Accounts w tags → crew2 ≡ gains mid (tally tags)
+pub collects_met : (crew mid crew2 : Crew live) (list list2 : List Report) (w : Worker) (tags : List Tagged) → TookOf crew.work.puts w → Works crew mid → Meets crew.work mid.work w → Accounts w tags → crew2 ≡ gains mid (tally tags)
     → list2 ≡ list ++ reports_in tags → Collects crew crew2 list list2
-collects_met crew mid crew2 list list2 w tags works m h counted listed =
+collects_met crew mid crew2 list list2 w tags took works m h counted listed =
     let same : crew2.work ≡ mid.work = ap (λ (c : Crew live). c.work) counted in
     let takes : Takes crew.work mid.work (reports_in tags) = record {
       events = tags;
       told = refl;
+      queued = of_queue crew.work.puts w tags took h;
       concern = h.told;
       decided = λ s low. record { entries = (token_at s w.shards).own; deeds = h.deeds s low; judged = h.judged s low; among = m.among s low };
       holds = m.holds;
@@ -78,6 +80,10 @@ collects_met crew mid crew2 list list2 w tags works m h counted listed =
           ∙ (ap (λ (c : Crew live). gains c (tally tags)) works
           ∙ (ap (λ (x : Work). with_work (gains crew (tally tags)) x) (sym same) ∙ ap (λ (c : Counts). with_work (gains crew c) crew2.work) (sym (told_counted tags))));
     }
+
+-- the same after nothing changed
+pub collects_after : (crew crew1 crew2 : Crew live) (list list2 : List Report) → crew1 ≡ crew → Collects crew1 crew2 list list2 → Collects crew crew2 list list2
+collects_after crew crew1 crew2 list list2 same h = subst (λ (c : Crew live). Collects c crew2 list list2) same h
 
 -- ---- what workers counted
 

@@ -4,12 +4,18 @@ use Rattle.std.specs.List.{All}
 use Rattle.ap_books.specs.Counts.{none}
 use Rattle.ap_books.specs.Holdings.{Holding, HasParts, sum_of}
 use Rattle.ap_shards.specs.Tokens.{holding_of}
-use Rattle.ap_queues.specs.Lines.{HasPutNothing}
+use Rattle.ap_queues.specs.Lines.{ArePassesOf, HasPutNothing, HaveMade}
+use Rattle.ap_queues.specs.declared.lines.passes.LinePasses.{LinePasses}
 use Rattle.ap_live.specs.Counting.{counted_by}
 use Rattle.ap_live.specs.Lives.{Live}
 use Rattle.ap_live.specs.Opening.{parts_in_all}
 use Rattle.ap_live.specs.Tokens.{Operator, IsOperator, Worker, IsWorker}
 use Rattle.ap_live.specs.Upholding.{token_at}
+
+-- handles of the access point's queues that are left after one operator got its own
+pub record AreRest (a : Live) (left : LinePasses) : Type 0 where
+  pub passes : ArePassesOf a.queues left
+  pub alone : HaveMade 1 left
 
 -- an operator's token with one part of each ledger, which has counted nothing, and has put nothing into any queue
 pub record IsNewOperator (a : Live) (o : Operator) : Type 0 where

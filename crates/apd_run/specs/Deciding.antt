@@ -1,15 +1,17 @@
 -- What became of a worker's events, as the shards' histories have it.
-use Rattle.std.specs.Prelude.{◌≡◌, ◌==◌, ◌<◌, ℕ, Bool, true, false, List, [], ◌∷◌, map}
+use Rattle.std.specs.Prelude.{◌≡◌, ◌==◌, ◌<◌, ℕ, Bool, true, false, List, [], ◌∷◌, ◌++◌, map, slice_index_or}
 use Rattle.std.specs.List.{All}
 use Rattle.ap_model.specs.declared.event.Event.{Event}
 use Rattle.ap_model.specs.declared.event.Out.{Out}
 use Rattle.ap_model.specs.Drops.{drops}
-use Rattle.ap_model.specs.Readings.{Config, Readings}
+use Rattle.ap_model.specs.Readings.{Config}
 use Rattle.ap_model.specs.Runs.{Entry}
 use Rattle.ap_core.specs.Handles.{rules}
-use Rattle.ap_laws.specs.Headline.{LinkHolds}
-use Rattle.ap_locked.specs.Tokens.{IsAmong}
-use Rattle.ap_queues.specs.Items.{IsTold}
+use Rattle.ap_locked.specs.Tokens.{AreHandled, IsAmong}
+use Rattle.ap_queues.specs.Items.{IsTold, Item}
+use Rattle.ap_queues.specs.Passes.{taken_by}
+use Rattle.ap_queues.specs.Queues.{items_of}
+use Rattle.ap_queues.specs.declared.item.Queued.{Queued}
 use Rattle.versions.specs.declared.list.Load.{Load}
 use Rattle.versions.specs.Sets.{set_of}
 use Rattle.ap_shards.specs.Tokens.{Eight}
@@ -42,6 +44,22 @@ abbrev pub deeds_at : ℕ → List Tagged → List Deed
 deeds_at s [] = []
 deeds_at s (t ∷ ts) = with_deed (t.item.shard == s) t.item.event t.fate (deeds_at s ts)
 
+-- the items of events, in order
+abbrev pub items_in : List Tagged → List Item
+items_in events = map (λ (t : Tagged). t.item) events
+
+-- what the worker took is a prefix of what was put into its queue, if this was put into each worker's
+pub record TookOf (puts : List (List Item)) (w : Worker) : Type 0 where
+  pub rest : List Item
+  pub put : slice_index_or puts w.number [] ≡ items_of (taken_by w.pass) ++ rest
+
+-- the events are of items that were put into one worker's queue one after another, in this order
+pub record AreOfQueue (puts : List (List Item)) (events : List Tagged) : Type 0 where
+  pub worker : ℕ
+  pub before : List Item
+  pub rest : List Item
+  pub put : slice_index_or puts worker [] ≡ before ++ (items_in events ++ rest)
+
 -- an event that concerns the shard at which it was handled
 abbrev pub Concerns : Tagged → Type 0
 Concerns t = IsTold t.item.event t.item.shard
@@ -52,9 +70,13 @@ pub record WasJudged (e : Entry) : Type 0 where
   pub loads : List Load
   pub judged : AreJudged (set_of loads) e.asked
 
--- Each event concerns its shard. What is told of those that were decided at a shard is, in order, what the token's own
--- entries there say, whose verdicts are of accepted programs.
+-- The events are of the last items that the worker took, in order, and each concerns its shard. What is told of those that
+-- were decided at a shard is, in order, what the token's own entries there say, whose verdicts are of accepted programs.
 pub record Accounts (w : Worker) (events : List Tagged) : Type 0 where
+  pub before : List Queued
+  pub items : List Queued
+  pub taken : taken_by w.pass ≡ before ++ items
+  pub same : items_in events ≡ items_of items
   pub told : All Concerns events
   pub deeds : (s : ℕ) → s < 8 → map deed_of (token_at s w.shards).own ≡ deeds_at s events
   pub judged : (s : ℕ) → s < 8 → All WasJudged (token_at s w.shards).own
@@ -67,10 +89,9 @@ pub record AreEntries (s : ℕ) (events : List Tagged) (history : List Entry) : 
   pub judged : All WasJudged entries
   pub among : IsAmong entries history
 
--- these entries are a run of this shard from nobody on, under this configuration, of which all laws of the link hold
-pub record IsHistory (s : ℕ) (config : Config) (history : List Entry) : Type 0 where
-  pub readings : Readings
-  pub holds : LinkHolds (rules s config) history readings
+-- these entries are a run of the link at this shard from nobody on, under this configuration
+abbrev pub IsHistory : ℕ → Config → List Entry → Type 0
+IsHistory s config history = AreHandled (rules s config) history
 
 -- what these tokens have seen of each shard
 abbrev pub histories_of : Eight → ℕ → List Entry

@@ -12,10 +12,11 @@ use Rattle.ap_live.specs.Lives.{Live}
 use Rattle.ap_live.specs.Opening.{parts_in_all}
 use Rattle.ap_live.specs.Tokens.{Operator, IsOperator, Worker, IsWorker}
 use Rattle.ap_live.specs.declared.tagged.Tagged.{Tagged}
-use Rattle.logbook.specs.Pages.{Book}
 use Rattle.versions.specs.Lists.{Beginning}
 use Rattle.apd_run.specs.InForce.{AreInForce}
 use Rattle.ap_queues.specs.Lines.{puts_of}
+use Rattle.ap_queues.specs.declared.lines.passes.LinePasses.{LinePasses}
+use Rattle.apd_run.specs.Dealing.{AreRest}
 use Rattle.apd_driver.specs.Crews.{Crew}
 use Rattle.apd_files.specs.Held.{Held}
 use Rattle.bpf_verifier.specs.declared.limit.Limits.{Limits}
@@ -29,17 +30,17 @@ pub record RunWorker : Type 0 where
   pub token : Worker
   pub handled : List Tagged
 
--- Its token belongs to the access point, whose published loads are this list, and has one part of each ledger, which has
--- counted what the events count. What is told of these events is what the token's own entries say.
-pub record IsRunWorker (list : Book) (w : RunWorker) : Type 0 where
+-- Its token belongs to this access point, and has one part of each ledger, which has counted what the events count. What is
+-- told of these events is what the token's own entries say; they are of the last items that it took.
+pub record IsRunWorker (ap : Live) (w : RunWorker) : Type 0 where
   pub own : IsWorker w.ap w.token
-  pub list_is : w.ap.list.list ≡ list
+  pub ap_is : w.ap ≡ ap
   pub parts : HasParts 1 (holding_of w.token.shards)
   pub counts : counted_by w.token.shards ≡ tally w.handled
   pub accounts : Accounts w.token w.handled
 
 -- An operator's access point, the configuration of its link, and its token, the parts of the ledgers and the pages that it
--- keeps and how many of each they are, what these have counted, how many workers have one, what was published, what the workers that came back have
+-- keeps and how many of each they are, the handles of the queues that are left, what these have counted, how many workers have one, what was published, what the workers that came back have
 -- counted of the runs of the programs in force, the files of programs, and what the verifier or a check may do for each
 -- program.
 pub record RunOperator (F : Type 0) : Type 0 where
@@ -49,6 +50,7 @@ pub record RunOperator (F : Type 0) : Type 0 where
   pub hoard : Holding
   pub pages : EightPages
   pub parts : ℕ
+  pub passes : LinePasses
   pub totals : Totals
   pub workers : ℕ
   pub loads : Beginning
@@ -56,10 +58,12 @@ pub record RunOperator (F : Type 0) : Type 0 where
   pub files : F
   pub limits : Limits
 
--- Its token belongs to the access point, whose published loads are this list, and has one part of each ledger, which
--- has counted nothing. The operator keeps, or the workers have, all other parts.
-pub record IsRunOperator {F : Type 0} (shares : ℕ) (list : Book) (o : RunOperator F) : Type 0 where
+-- Its token belongs to this access point, whose only operator it is, and has one part of each ledger, which has counted
+-- nothing. The operator keeps, or the workers have, all other parts.
+pub record IsRunOperator {F : Type 0} (shares : ℕ) (ap : Live) (o : RunOperator F) : Type 0 where
   pub own : IsOperator o.ap o.token
+  pub ap_is : o.ap ≡ ap
+  pub rest : AreRest o.ap o.passes
   pub mine : HasParts 1 (holding_of o.token.shards)
   pub nothing : counted_by o.token.shards ≡ none
   pub parts : HasParts o.parts o.hoard
@@ -67,7 +71,7 @@ pub record IsRunOperator {F : Type 0} (shares : ℕ) (list : Book) (o : RunOpera
   pub all : o.parts + o.workers + 1 ≡ parts_in_all
   pub shares_are : shares ≡ parts_in_all
   pub some : 1 < o.parts
-  pub list_is : o.loads.list ≡ list
+  pub list_is : o.loads.list ≡ ap.list.list
   pub reads : Reads o.totals (sum_of o.hoard)
   pub in_force : AreInForce o.programs o.loads.loads
 

@@ -23,7 +23,7 @@ use Rattle.apd_driver.specs.declared.reports.report.Report.{Report}
 use Rattle.apd_driver.specs.declared.reports.report.Told.{Told}
 use Rattle.apd_driver.specs.declared.reports.report.Told.TheVariants.{Memory, Word}
 use Rattle.apd_run.specs.Adopting.{AdoptsFiles}
-use Rattle.apd_run.specs.Deciding.{AreEntries, Concerns, IsHistory}
+use Rattle.apd_run.specs.Deciding.{AreEntries, AreOfQueue, Concerns, IsHistory}
 use Rattle.apd_run.specs.Loading.{LoadsFile}
 use Rattle.apd_run.specs.Telling.{reports_in}
 
@@ -80,12 +80,14 @@ pub record Meets (old new : Work) (w : Worker) : Type 0 where
   pub holds : (s : ℕ) → s < 8 → IsHistory s new.config (new.histories s)
   pub among : (s : ℕ) → s < 8 → IsAmong (token_at s w.shards).own (new.histories s)
 
--- What became of a worker's events was taken over, and is what these reports tell. Each event concerns its shard. What is
--- told of those that were decided at a shard is, in order, what entries of the shard's history say. Each history goes on
--- with what the operator knew of it before, and is a run of the link from nobody on, under the configuration.
+-- What became of a worker's events was taken over, and is what these reports tell. The events are of items that the
+-- operator put into that worker's queue one after another, and each concerns its shard. What is told of those that were
+-- decided at a shard is, in order, what entries of the shard's history say. Each history goes on with what the operator
+-- knew of it before, and is a run of the link from nobody on, under the configuration.
 pub record Takes (old new : Work) (reports : List Report) : Type 0 where
   pub events : List Tagged
   pub told : reports ≡ reports_in events
+  pub queued : AreOfQueue old.puts events
   pub concern : All Concerns events
   pub decided : (s : ℕ) → s < 8 → AreEntries s events (new.histories s)
   pub holds : (s : ℕ) → s < 8 → IsHistory s new.config (new.histories s)

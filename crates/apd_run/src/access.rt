@@ -2,8 +2,9 @@
 //!
 //! Main call: `run_live`. It depends on `ap_live`, `apd_driver` and `loads`. A worker of the run serves the queue of one
 //! worker of the access point by `LiveAp::serve`, and keeps what became of each event. The operator submits events, loads
-//! and unloads programs and reads maps. The last line says what all shares of the ledgers have counted, which is what the
-//! reports count.
+//! and unloads programs and reads maps. What it takes over from a worker became of events that it had put into that worker's
+//! queue, and those that were decided are entries of the shards' histories. The last line says what all shares of the
+//! ledgers have counted, which is what the reports count.
 mod counting;
 mod hands;
 mod hiring;
@@ -18,7 +19,7 @@ mod worker;
 pub use crate::loads::{Limits, StateLimit};
 pub use ap_live::{Gate, OpenGate, Settings};
 pub use ap_shards::NewShards;
-pub use naming::Publications;
+pub use naming::Names;
 pub use operator::LiveOperator;
 pub(crate) use running::run_live;
 pub use running::{Opening, Supplies};

@@ -1,28 +1,31 @@
 //! Giving out the tokens of a run.
 
-ghost use Rattle.std.specs.Prelude.{◌≡◌, ◌+◌, ◌≤◌, vec_len, IfOk};
+ghost use Rattle.std.specs.Prelude.{◌≡◌, ◌+◌, ◌≤◌, vec_len, IfOk, OnOk};
 ghost use Rattle.std.specs.List.{All};
 ghost use Rattle.ap_books.specs.Counts.{none};
 ghost use Rattle.ap_live.specs.Counting.{counted_by};
 ghost use Rattle.ap_live.specs.Opening.{parts_in_all};
 ghost use Rattle.ap_live.specs.Tokens.{AreLeft, IsWorker};
 ghost use Rattle.ap_shards.specs.Pages.{HasPages};
-ghost use Rattle.apd_run.specs.Dealing.{AreHands, IsNewOperator, IsNewWorker};
+ghost use Rattle.ap_queues.specs.Lines.{HaveMade};
+ghost use Rattle.apd_run.specs.Dealing.{AreHands, AreRest, IsNewOperator, IsNewWorker};
 
 use crate::access::hiring::hire;
 use ap_books::{Ledgers, Portions};
 use ap_live::{LeftTokens, LiveAp, OperatorToken, WorkerToken, newcomers_law, tokens_law};
 use ap_locked::Journals;
+use ap_queues::LinePasses;
 use ap_shards::AllPages;
 use std::alloc::{AllocError, Global};
 
-/// What an operator has of an access point: its token, and the parts of the ledgers and the pages of the journals that it
-/// keeps.
+/// What an operator has of an access point: its token, and the parts of the ledgers, the pages of the journals and the
+/// handles of the queues that it keeps.
 #[derive(Drop)]
 pub(crate) struct Kept<B: Ledgers + Journals> {
     pub token: Box<OperatorToken<B>>,
     pub hoard: Box<Portions<B>>,
     pub pages: Box<AllPages<B>>,
+    pub passes: LinePasses,
 }
 
 /// The tokens of the workers, and the operator's with all other parts of the ledgers and pages of the journals: `parts` of
@@ -49,6 +52,7 @@ fn give_rights<B: Ledgers + Journals>(
     count: usize,
 ) -> Result<Rights<B>, AllocError>
     requires left { AreLeft ap.old left.old }
+    requires unmade { HaveMade 0 left.old.passes }
     requires all { ap.old.stock.workers ≡ count }
     ensures operator { IfOk result (λ r. IsNewOperator ap.new r.operator) }
     ensures own { IfOk result (λ r. All (IsWorker ap.new) r.workers.items) }
@@ -56,6 +60,7 @@ fn give_rights<B: Ledgers + Journals>(
     ensures many { IfOk result (λ r. vec_len r.workers ≡ count) }
     ensures parts { IfOk result (λ _. left.new.parts + count + 1 ≡ left.old.parts) }
     ensures counted { IfOk result (λ _. counted_by left.new.shards ≡ counted_by left.old.shards) }
+    ensures rest { OnOk result (AreRest ap.new left.new.passes) }
     ensures list { ap.new.list ≡ ap.old.list }
     ensures queues { ap.new.queues ≡ ap.old.queues }
 {
@@ -93,6 +98,7 @@ pub(crate) fn deal<B: Ledgers + Journals>(
     count: usize,
 ) -> Result<Hands<B>, AllocError>
     requires left { AreLeft ap.old left }
+    requires unmade { HaveMade 0 left.passes }
     requires all { ap.old.stock.workers ≡ count }
     requires few { count ≤ 8 }
     requires nothing { counted_by left.shards ≡ none }
@@ -100,6 +106,7 @@ pub(crate) fn deal<B: Ledgers + Journals>(
     ensures hands { IfOk result (λ h. AreHands ap.new
         h.kept.token.value h.workers.items h.kept.hoard.value h.parts) }
     ensures pages { IfOk result (λ h. HasPages h.parts h.kept.pages.value) }
+    ensures rest { IfOk result (λ h. AreRest ap.new h.kept.passes) }
     ensures many { IfOk result (λ h. vec_len h.workers ≡ count) }
     ensures list { ap.new.list ≡ ap.old.list }
     ensures queues { ap.new.queues ≡ ap.old.queues }
@@ -115,12 +122,13 @@ pub(crate) fn deal<B: Ledgers + Journals>(
     };
     let Rights { operator, workers } = rights;
     let parts = 16 - workers.len() as u64;
-    let (hoard, pages) = left.into_parts();
+    let (hoard, pages, passes) = left.into_all();
     let (token, hoard, pages) = in_boxes(alloc, operator, hoard, pages)?;
     let kept = Kept {
         token,
         hoard,
         pages,
+        passes,
     };
     Ok(Hands {
         kept,

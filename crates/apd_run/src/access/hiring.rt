@@ -4,6 +4,7 @@ ghost use Rattle.std.specs.Prelude.{◌≡◌, ◌+◌, vec_len, IfOk};
 ghost use Rattle.std.specs.List.{All};
 ghost use Rattle.ap_live.specs.Counting.{counted_by};
 ghost use Rattle.ap_live.specs.Tokens.{AreLeft, IsWorker};
+ghost use Rattle.ap_queues.specs.Lines.{HaveMade};
 ghost use Rattle.apd_run.specs.Dealing.{IsNewWorker};
 
 use ap_books::Ledgers;
@@ -19,8 +20,10 @@ pub(crate) fn hire<B: Ledgers + Journals>(
     count: usize,
 ) -> Result<Vec<WorkerToken<B>>, AllocError>
     requires left { AreLeft ap.old left.old }
+    requires unmade { HaveMade 0 left.old.passes }
     requires all { ap.old.stock.workers ≡ count }
     ensures left { AreLeft ap.new left.new }
+    ensures unmade { HaveMade 0 left.new.passes }
     ensures own { IfOk result (λ ws. All (IsWorker ap.new) ws.items) }
     ensures new { IfOk result (λ ws. All IsNewWorker ws.items) }
     ensures many { IfOk result (λ ws. vec_len ws ≡ count) }

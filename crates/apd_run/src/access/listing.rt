@@ -8,7 +8,7 @@ ghost use Rattle.apd_driver.specs.Crews.{LooksOn};
 ghost use Rattle.apd_run.specs.Hands.{crew_of};
 ghost use Rattle.apd_run.specs.Listing.{ListsAgreements, ListsStations, agreement_row, station_row};
 
-use crate::access::naming::Publications;
+use crate::access::naming::Names;
 use crate::access::operator::LiveOperator;
 use ap_books::Ledgers;
 use ap_live::{AgreementInForce, Known, KnownStation};
@@ -69,7 +69,7 @@ fn agreement_rows(
         .collect(alloc)
 }
 
-impl<'a, B: Ledgers + Journals, L: Publications, F: Files> LiveOperator<'a, B, L, F> {
+impl<'a, B: Ledgers + Journals, L: Names, F: Files> LiveOperator<'a, B, L, F> {
     /// The known stations of all shards, by address.
     pub(crate) fn known_stations<R: Wait>(
         &mut self,

@@ -1,14 +1,21 @@
-//! The list of programs published during a run.
+//! Naming the access point of a run.
 
-ghost use Rattle.logbook.specs.Pages.{Book};
+ghost use Rattle.ap_live.specs.Lives.{Live};
 
 use std::marker::Brand;
 
-/// Names the list. Each run has its own type.
-pub trait Publications {
-    ghost list: { Book };
+/// Names the access point of a run, with its queues and the list of programs published there. Each run has its own type.
+pub trait Names {
+    ghost ap: { Live };
 }
 
-impl Publications for Brand {
-    ghost list = { record { number = 0; log_name = 0; cells_name = 0 } };
+impl Names for Brand {
+    ghost use Rattle.std.specs.Prelude.{[]};
+
+    ghost ap = { record {
+      queues = [];
+      stock = record { maps = []; workers = 0 };
+      list = record { list = record { number = 0; log_name = 0; cells_name = 0 }; shapes = []; loads = [] };
+      draw = 0;
+    } };
 }

@@ -8,14 +8,14 @@ ghost use Rattle.versions.specs.Sets.{set_of};
 ghost use Rattle.hook_judge.specs.Sums.{no_counts};
 ghost use Rattle.apd_run.specs.InForce.{budget_shown, budgets_of, row_shown, rows_of, with_counts};
 ghost use Rattle.apd_run.specs.Hands.{crew_of, work_of};
-ghost use Rattle.apd_run.specs.Deciding.{Accounts};
+ghost use Rattle.apd_run.specs.Deciding.{Accounts, TookOf};
 ghost use Rattle.apd_run.specs.Work.{Does, IsWord, Meets};
 ghost use Rattle.apd_script.specs.Asked.{Adopt, Load, Unload};
 ghost use Rattle.apd_driver.specs.Tallies.{told_counts};
 ghost use Rattle.apd_driver.specs.Crews.{Works, gains, with_one_more};
 
 use crate::access::counting::counted_in;
-use crate::access::naming::Publications;
+use crate::access::naming::Names;
 use crate::access::program_counts::ProgramCounts;
 use crate::access::telling::report_all;
 use crate::access::worker::LiveWorker;
@@ -24,7 +24,7 @@ use ap_books::{Ledgers, Portions, Totals};
 use ap_live::{LiveAp, OperatorToken, Tagged};
 use ap_locked::Journals;
 use ap_model::Event;
-use ap_queues::Unserved;
+use ap_queues::{LinePasses, Unserved};
 use ap_shards::AllPages;
 use apd_driver::{
     AgreementRow, Operating, ProgramRow, Publication, Report, StationRow, Told, Waiting, WordUse,
@@ -44,15 +44,16 @@ pub(crate) struct Sources<'a, F> {
     pub(crate) limits: Limits,
 }
 
-/// The operator of a run: its token, the parts of the ledgers and the pages that no worker has, what these parts have
-/// counted, what was counted of the programs in force, and their sources. Contracts see all of it.
+/// The operator of a run: its token, the parts of the ledgers, the pages and the handles of queues that no worker has, what
+/// these parts have counted, what was counted of the programs in force, and their sources. Contracts see all of it.
 #[derive(Drop)]
-pub struct LiveOperator<'a, B: Ledgers + Journals, L: Publications, F: Files> {
+pub struct LiveOperator<'a, B: Ledgers + Journals, L: Names, F: Files> {
     pub(crate) ap: &'a LiveAp<B>,
     pub(crate) token: Box<OperatorToken<B>>,
     pub(crate) hoard: Box<Portions<B>>,
     pub(crate) pages: Box<AllPages<B>>,
     pub(crate) parts: u64,
+    pub(crate) passes: LinePasses,
     pub(crate) totals: Totals,
     pub(crate) workers: u64,
     pub(crate) loads: &'a mut Loads,
@@ -61,7 +62,7 @@ pub struct LiveOperator<'a, B: Ledgers + Journals, L: Publications, F: Files> {
     pub(crate) list: PhantomData<L>,
 }
 
-impl<'a, B: Ledgers + Journals, L: Publications, F: Files> Model for LiveOperator<'a, B, L, F> {
+impl<'a, B: Ledgers + Journals, L: Names, F: Files> Model for LiveOperator<'a, B, L, F> {
     ghost use Rattle.apd_run.specs.Hands.{RunOperator, IsRunOperator};
 
     ghost Value = { RunOperator F };
@@ -73,6 +74,7 @@ impl<'a, B: Ledgers + Journals, L: Publications, F: Files> Model for LiveOperato
       hoard = o.hoard.value;
       pages = o.pages.value;
       parts = o.parts;
+      passes = o.passes;
       totals = o.totals;
       workers = o.workers;
       loads = o.loads.now;
@@ -81,13 +83,14 @@ impl<'a, B: Ledgers + Journals, L: Publications, F: Files> Model for LiveOperato
       limits = o.sources.limits;
     } };
 
-    ghost invariant = { λ o. IsRunOperator B.shares L.list (record {
+    ghost invariant = { λ o. IsRunOperator B.shares L.ap (record {
       ap = o.ap.now;
       config = B.config;
       token = o.token.value;
       hoard = o.hoard.value;
       pages = o.pages.value;
       parts = o.parts;
+      passes = o.passes;
       totals = o.totals;
       workers = o.workers;
       loads = o.loads.now;
@@ -97,7 +100,7 @@ impl<'a, B: Ledgers + Journals, L: Publications, F: Files> Model for LiveOperato
     }) };
 }
 
-impl<'a, B: Ledgers + Journals, L: Publications, F: Files> LiveOperator<'a, B, L, F> {
+impl<'a, B: Ledgers + Journals, L: Names, F: Files> LiveOperator<'a, B, L, F> {
     fn load<R: Wait>(&mut self, rt: &R, hook: Hook, path: &str) -> Told
         ensures works { Works (crew_of F.held self.old) (crew_of F.held self.new) }
         ensures does { Does (work_of F.held self.old) (work_of F.held self.new)
@@ -192,12 +195,25 @@ impl<'a, B: Ledgers + Journals, L: Publications, F: Files> LiveOperator<'a, B, L
     }
 }
 
-impl<'a, B: Ledgers + Journals, L: Publications, F: Files> LiveOperator<'a, B, L, F> {
+impl<'a, B: Ledgers + Journals, L: Names, F: Files> LiveOperator<'a, B, L, F> {
+    /// Meets a worker at its queue: what the worker took is a prefix of what the operator put there. Does nothing at run
+    /// time.
+    fn meet_at_queue<G: Drop>(&mut self, worker: &mut LiveWorker<'a, B, L, G>)
+        ensures same { crew_of F.held self.new ≡ crew_of F.held self.old }
+        ensures took { TookOf (work_of F.held self.new).puts worker.new.token }
+    {
+        let token = &mut *self.token;
+        self.ap
+            .meet_alone(&mut worker.token, token, &mut self.passes);
+    }
+
     /// Meets a worker: the operator then knows all that the worker decided, in the one history of each shard. Does nothing
     /// at run time.
     fn meet<G: Drop>(&mut self, worker: &mut LiveWorker<'a, B, L, G>)
         ensures works { Works (crew_of F.held self.old) (crew_of F.held self.new) }
         ensures meets { Meets (work_of F.held self.old) (work_of F.held self.new) worker.new.token }
+        ensures same { worker.new.token
+            ≡ record worker.old.token { shards = worker.new.token.shards } }
     {
         worker.token.meet_operator(&mut *self.token);
         worker.token.known();
@@ -278,9 +294,8 @@ fn waiting_for(unserved: Unserved) -> Waiting
     Waiting { event, shard }
 }
 
-impl<'a, B: Ledgers + Journals, L: Publications, F: Files, G: Drop> Operating<
-    LiveWorker<'a, B, L, G>,
-> for LiveOperator<'a, B, L, F> {
+impl<'a, B: Ledgers + Journals, L: Names, F: Files, G: Drop> Operating<LiveWorker<'a, B, L, G>>
+    for LiveOperator<'a, B, L, F> {
     ghost use Rattle.ap_live.specs.Counting.{counted_by};
     ghost use Rattle.apd_run.specs.Hands.{crew_of};
     ghost use Rattle.apd_run.specs.Work.{live};
@@ -367,6 +382,7 @@ impl<'a, B: Ledgers + Journals, L: Publications, F: Files, G: Drop> Operating<
         worker: &mut LiveWorker<'a, B, L, G>,
         reports: &mut Vec<Report>,
     ) -> Result<(), AllocError> {
+        self.meet_at_queue(worker);
         self.meet(worker);
         let handled = self.exchange(worker);
         self.tell(worker);

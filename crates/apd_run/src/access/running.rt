@@ -8,14 +8,14 @@ ghost use Rattle.ap_live.specs.Opening.{parts_in_all};
 ghost use Rattle.ap_live.specs.Tokens.{IsWorker};
 ghost use Rattle.ap_shards.specs.Opening.{AreNamed};
 ghost use Rattle.ap_shards.specs.Pages.{HasPages};
-ghost use Rattle.apd_run.specs.Dealing.{AreHands, IsNewOperator, IsNewWorker};
+ghost use Rattle.apd_run.specs.Dealing.{AreHands, AreRest, IsNewOperator, IsNewWorker};
 ghost use Rattle.apd_run.specs.Hands.{crew_of};
 ghost use Rattle.apd_driver.specs.Captures.{KeepsWhole};
 ghost use Rattle.apd_driver.specs.Shows.{IsBroken};
 ghost use Rattle.apd_run.specs.NewRuns.{IsNewCrew, RunsNew};
 
 use crate::access::hands::{Hands, Kept, deal};
-use crate::access::naming::Publications;
+use crate::access::naming::Names;
 use crate::access::operator::{LiveOperator, Sources};
 use crate::access::program_counts::ProgramCounts;
 use crate::access::worker::LiveWorker;
@@ -75,11 +75,11 @@ fn ready_workers<'a, B, L, G>(
 ) -> Result<Vec<Ready<LiveWorker<'a, B, L, G>>>, AllocError>
 where
     B: Ledgers + Journals,
-    L: Publications,
+    L: Names,
     G: Gate + Copy,
     requires own { All (IsWorker ap.now) tokens.items }
     requires new { All IsNewWorker tokens.items }
-    requires list { ap.now.list.list ≡ L.list }
+    requires named { ap.now ≡ L.ap }
     ensures many { IfOk result (λ ready. vec_len ready ≡ vec_len tokens) }
 {
     let mut tokens = tokens;
@@ -110,18 +110,20 @@ fn new_operator<'a, B, L, F>(
 ) -> LiveOperator<'a, B, L, F>
 where
     B: Ledgers + Journals,
-    L: Publications,
+    L: Names,
     F: Files,
     requires new { IsNewOperator ap.now kept.token.value }
     requires kept { HasParts parts kept.hoard.value }
     requires pages { HasPages parts kept.pages.value }
+    requires rest { AreRest ap.now kept.passes }
     requires enough { 1 < parts }
     requires nothing { sum_of kept.hoard.value ≡ none }
     requires some { 0 < workers }
     requires each { length ap.now.queues ≡ workers }
     requires all { parts + workers + 1 ≡ parts_in_all }
     requires shares { B.shares ≡ parts_in_all }
-    requires list { loads.old.list ≡ L.list }
+    requires named { ap.now ≡ L.ap }
+    requires list { loads.old.list ≡ L.ap.list.list }
     requires no_loads { loads.old.loads ≡ [] }
     ensures workers { (crew_of F.held result).workers ≡ workers }
     ensures new { IsNewCrew (F.held sources.entry.files.now) sources.entry.limits
@@ -131,6 +133,7 @@ where
         token,
         hoard,
         pages,
+        passes,
     } = kept;
     LiveOperator {
         ap,
@@ -138,6 +141,7 @@ where
         hoard,
         pages,
         parts,
+        passes,
         totals: Totals::new(),
         workers,
         loads,
@@ -159,7 +163,7 @@ fn run_with<B, L, F, G, R, S, P>(
 ) -> (P, u8)
 where
     B: Ledgers + Journals + Send + Sync,
-    L: Publications + Send,
+    L: Names + Send,
     F: Files,
     G: Gate + Copy + Send,
     R: Threads + Wait + Sync,
@@ -168,11 +172,12 @@ where
     requires hands { let hands = equipment.hands in
         AreHands ap.now hands.kept.token.value hands.workers.items hands.kept.hoard.value hands.parts }
     requires pages { HasPages equipment.hands.parts equipment.hands.kept.pages.value }
+    requires rest { AreRest ap.now equipment.hands.kept.passes }
     requires shares { B.shares ≡ parts_in_all }
     requires some { 0 < length ap.now.queues }
     requires each { length ap.now.queues ≡ vec_len equipment.hands.workers }
-    requires list { ap.now.list.list ≡ L.list }
-    requires loads { equipment.loads.list ≡ L.list }
+    requires named { ap.now ≡ L.ap }
+    requires loads { equipment.loads.list ≡ L.ap.list.list }
     requires no_loads { equipment.loads.loads ≡ [] }
     ensures runs { RunsNew (F.held supplies.entry.files.now) supplies.entry.limits
         (P.manner writer) (S.script lines) (P.contents writer) (P.contents result.0) result.1 }

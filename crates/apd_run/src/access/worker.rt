@@ -1,6 +1,6 @@
 //! The workers of a run.
 
-use crate::access::naming::Publications;
+use crate::access::naming::Names;
 use ap_books::Ledgers;
 use ap_live::{Gate, LiveAp, Tagged, WorkerToken};
 use ap_locked::Journals;
@@ -12,7 +12,7 @@ use std::sync::Wait;
 /// A worker of a run: its token, what it needs for each event, and what became of each since the operator last took over
 /// its counts, which are what these count. Contracts see the access point, the token and the list.
 #[derive(Drop)]
-pub struct LiveWorker<'a, B: Ledgers + Journals, L: Publications, G: Drop> {
+pub struct LiveWorker<'a, B: Ledgers + Journals, L: Names, G: Drop> {
     pub(crate) ap: &'a LiveAp<B>,
     pub(crate) alloc: Global,
     pub(crate) gate: G,
@@ -21,19 +21,18 @@ pub struct LiveWorker<'a, B: Ledgers + Journals, L: Publications, G: Drop> {
     pub(crate) list: PhantomData<L>,
 }
 
-impl<'a, B: Ledgers + Journals, L: Publications, G: Drop> Model for LiveWorker<'a, B, L, G> {
+impl<'a, B: Ledgers + Journals, L: Names, G: Drop> Model for LiveWorker<'a, B, L, G> {
     ghost use Rattle.apd_run.specs.Hands.{RunWorker, IsRunWorker};
 
     ghost Value = { RunWorker };
 
     ghost view = { λ w. record { ap = w.ap.now; token = w.token; handled = w.handled.items } };
 
-    ghost invariant = { λ w. IsRunWorker L.list
+    ghost invariant = { λ w. IsRunWorker L.ap
         (record { ap = w.ap.now; token = w.token; handled = w.handled.items }) };
 }
 
-impl<'a, B: Ledgers + Journals, L: Publications, G: Gate + Drop> Serving
-    for LiveWorker<'a, B, L, G> {
+impl<'a, B: Ledgers + Journals, L: Names, G: Gate + Drop> Serving for LiveWorker<'a, B, L, G> {
     ghost use Rattle.ap_live.specs.Counting.{counted_by};
 
     ghost counted = { λ w. counted_by w.token.shards };

@@ -1,5 +1,6 @@
 use Rattle.std.proofs.Common.{◌≡◌, ◌+◌, vec_len}
 use Rattle.std.specs.List.{All}
+use Rattle.ap_queues.specs.Lines.{HaveMade}
 use Rattle.ap_live.specs.Counting.{counted_by}
 use Rattle.ap_live.specs.Tokens.{AreLeft, IsWorker}
 use Rattle.apd_run.specs.Dealing.{IsNewWorker}
@@ -9,6 +10,7 @@ abbrev pub invariant-loop-number : goal.invariant-loop-number
 invariant-loop-number g l =
     record {
       left : AreLeft l.ap l.left;
+      unmade : HaveMade 0 l.left.passes;
       all : l.ap.stock.workers ≡ l.count;
       own : All (IsWorker l.ap) l.tokens.items;
       new_workers : All IsNewWorker l.tokens.items;

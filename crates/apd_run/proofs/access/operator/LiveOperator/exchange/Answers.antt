@@ -44,6 +44,8 @@ invariant_of-self g c =
     let given : HasParts 1 c.renew-counted.result = subst (HasParts 1) (sym (c.renew-counted.ensures.given ∙ ap (λ (w : Worker). holding_of w.shards) c.take_counts-runs.ensures.anew)) c.worker.invariant.parts in
     record {
       own = i.own;
+      ap_is = i.ap_is;
+      rest = i.rest;
       mine = i.mine;
       nothing = i.nothing;
       parts = exchanged_parts c.self.inside.parts hoard left c.renew-counted.result c.merge.new.self i.parts split given merged;

@@ -1,6 +1,7 @@
-use Rattle.std.proofs.Common.{ap, subst, ◌∙◌}
+use Rattle.std.proofs.Common.{◌≡◌, ap, subst, ◌∙◌}
 use Rattle.ap_shards.specs.Tokens.{KeepOwn}
-use Rattle.ap_live.specs.Tokens.{Operator}
+use Rattle.ap_live.specs.Tokens.{Operator, Worker}
+use Rattle.apd_run.specs.Hands.{RunWorker}
 use Rattle.apd_run.proofs.Deciding.{met_among, met_histories}
 use Rattle.apd_run.proofs.Keeping.{met_operator, met_worker}
 use Rattle.apd_run.proofs.Operated.{sees_more, works}
@@ -25,3 +26,8 @@ returns-clause-meets g c =
       holds = met_histories _ _ _ c.meet_operator.ensures.seen c.known.ensures.upholds;
       among = met_among _ _ _ c.meet_operator.ensures.seen c.known.ensures.upholds;
     }
+
+pub returns-clause-same : goal.returns-clause-same
+returns-clause-same g c =
+    let t : Worker = c.meet_operator.new.self in
+    subst (λ (w : RunWorker). t ≡ record w.token { shards = t.shards }) c.worker.view_is c.meet_operator.ensures.same

@@ -22,6 +22,8 @@ invariant_of-self g c =
     let pages = subst (HasPages c.self.inside.parts) (sym c.deref_mut-2.ensures.value) i.pages in
     record {
       own = i.own;
+      ap_is = i.ap_is;
+      rest = i.rest;
       mine = i.mine;
       nothing = i.nothing;
       parts = one_more_part c.self.inside.parts hoard shares c.merge.new.self i.parts given merged;

@@ -1,11 +1,13 @@
 use Rattle.std.proofs.Common.{ap, ◌∙◌}
 use Rattle.ap_live.specs.Counting.{counted_by}
-use Rattle.apd_run.proofs.Served.{collects_met}
+use Rattle.apd_run.proofs.Deciding.{took_still}
+use Rattle.apd_run.proofs.Served.{collects_after, collects_met}
 use Rattle.apd_run.proofs.access.operator.LiveOperatorOperatingLiveWorker.settle.Goals as goal
 
 pub returns : goal.returns
 returns g c =
     record {
-      collects = collects_met _ _ _ _ _ _ _ c.meet.ensures.works c.meet.ensures.meets c.exchange-handled.ensures.accounts (c.tell.ensures.same ∙ c.exchange-handled.ensures.crew) c.in_ok-report_all.ensures;
+      collects = collects_after _ _ _ _ _ c.meet_at_queue.ensures.same
+          (collects_met _ _ _ _ _ _ _ (took_still _ _ _ c.meet.ensures.same c.meet_at_queue.ensures.took) c.meet.ensures.works c.meet.ensures.meets c.exchange-handled.ensures.accounts (c.tell.ensures.same ∙ c.exchange-handled.ensures.crew) c.in_ok-report_all.ensures);
       worker = ap counted_by c.tell.ensures.worker ∙ c.exchange-handled.ensures.worker;
     }
