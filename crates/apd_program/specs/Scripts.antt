@@ -1,5 +1,5 @@
 -- The answer of `frames` for a capture.
-use Rattle.std.specs.Prelude.{◌≡◌, ℕ, Bool, true, false, List, length, string_bytes, Option, Some, None, Ok}
+use Rattle.std.specs.Prelude.{◌≡◌, ℕ, Bool, true, false, List, length, Option, Some, None, Ok}
 use Rattle.hex.specs.Hex.{decode_of}
 use Rattle.capture.specs.Packets.{Seen}
 use Rattle.capture.specs.declared.fault.CaptureFault.{CaptureFault}
@@ -51,8 +51,8 @@ pub record IsScriptOf (ticks : Bool) (c : Choice) (file : List ℕ) (cut : Optio
 
 -- the script, with the frames that are chosen
 abbrev pub IsChosenScript : Bool → Choice → List ℕ → Answer → Type 0
-IsChosenScript ticks c file (Script text) = IsScriptOf ticks c file None (string_bytes text)
-IsChosenScript ticks c file (CutScript text fault) = IsScriptOf ticks c file (Some fault) (string_bytes text)
+IsChosenScript ticks c file (Script text) = IsScriptOf ticks c file None text
+IsChosenScript ticks c file (CutScript text fault) = IsScriptOf ticks c file (Some fault) text
 IsChosenScript ticks c file _ = ⊥
 
 -- `frames`: the script
