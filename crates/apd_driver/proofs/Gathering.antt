@@ -10,7 +10,7 @@ use Rattle.apd_script.specs.declared.batch.MalformedLine.{MalformedLine}
 use Rattle.apd_driver.specs.declared.reports.report.Form.{Form}
 use Rattle.apd_driver.specs.declared.reports.report.Report.{Report}
 use Rattle.apd_driver.specs.Crews.{Collects, Crew, Works, gains, with_work}
-use Rattle.apd_driver.specs.Following.{FollowsAll, Lists, NoLine}
+use Rattle.apd_driver.specs.Following.{FollowsAll, FromNone, Lists, NoLine}
 use Rattle.apd_driver.specs.Semantics.{Semantics}
 use Rattle.apd_driver.specs.Shows.{AnswerMalformed, Before, BeforeThem, BreaksFrom, BreaksMalformed, Gathered, OnlyMalformed, PrintsPart, Within, WithinThem, malformed_at, malformed_by}
 use Rattle.apd_driver.specs.Tallies.{tallied}
@@ -35,8 +35,10 @@ gathered {s} lines malformed crew crew1 crew2 told listed handed works h k t c =
       answers = k.reports;
       on_malformed = k.kind;
       others = c.reports;
+      taken = c.taken;
       all = c.listed ∙ (ap (λ (l : List Report). l ++ c.reports) (k.listed ∙ ap (λ (l : List Report). l ++ k.reports) h.listed) ∙ append_assoc h.reports k.reports c.reports);
-      counts = c.counted ∙ (ap (λ (x : Crew s). gains x counts) works ∙ ap (λ (x : Counts). with_work (gains crew x) crew1.work) (sym (others_count listed c.reports handed t c.listed)));
+      counts = c.counted
+          ∙ (ap (λ (x : Crew s). with_work (gains x counts) crew2.work) works ∙ ap (λ (x : Counts). with_work (gains crew x) crew2.work) (sym (others_count listed c.reports handed t c.listed)));
     }
 
 -- malformed lines alone, from a list of reports
@@ -57,6 +59,7 @@ gathered_answers malformed crew handed only =
       answers = handed;
       on_malformed = only.on_malformed;
       others = [];
+      taken = FromNone;
       all = sym (append-nil handed);
       counts = λ i. record { workers = crew.workers; counted = sym same i; work = crew.work };
     }

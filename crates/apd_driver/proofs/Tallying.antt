@@ -1,11 +1,12 @@
 -- Counting reports in consecutive lists.
-use Rattle.std.proofs.Common.{◌≡◌, ℕ, ◌+◌, List, [], ◌∷◌, ◌++◌, refl, sym, ap, ◌∙◌, append_assoc, append-nil, add_assoc, add-zero, zero-add}
+use Rattle.std.proofs.Common.{◌≡◌, ℕ, ◌+◌, List, [], ◌∷◌, ◌++◌, refl, sym, ap, subst, ◌∙◌, append_assoc, append-nil, add_assoc, add-zero, zero-add}
 use Rattle.std.specs.List.{sum_by}
 use Rattle.std.proofs.lemmas.List.Sums.{sum_by-append}
 use Rattle.ap_books.specs.Counts.{Counts, none, plus}
 use Rattle.apd_driver.specs.declared.reports.report.Report.{Report}
 use Rattle.apd_driver.specs.Tallies.{told_counts, report_counts, tallied}
-use Rattle.apd_driver.specs.Crews.{Crew, gains, Collects}
+use Rattle.apd_driver.specs.Crews.{Crew, gains, with_work, Collects}
+use Rattle.apd_driver.specs.Following.{FromNone, FromOneMore, TakesAll}
 use Rattle.apd_driver.specs.Semantics.{Semantics}
 use Rattle.apd_driver.specs.Tells.{Tells}
 
@@ -48,17 +49,25 @@ collects_none c xs =
     record {
       reports = [];
       listed = sym (append-nil xs);
+      taken = FromNone;
       counted = λ i. record { workers = c.workers; counted = sym (plus_none c.counted) i; work = c.work };
     }
 
+-- reports were taken over, and then more were
+takes_more : (s : Semantics) (w0 w1 w2 : s.Work) (xs ys : List Report) → TakesAll s w0 w1 xs → TakesAll s w1 w2 ys → TakesAll s w0 w2 (xs ++ ys)
+takes_more s w0 w1 w2 xs ys h FromNone = subst (λ (l : List Report). TakesAll s w0 w1 l) (sym (append-nil xs)) h
+takes_more s w0 w1 w2 xs ys h (FromOneMore mid new reports more k one) =
+    subst (λ (l : List Report). TakesAll s w0 new l) (append_assoc xs reports more) (FromOneMore mid new (xs ++ reports) more (takes_more s w0 w1 mid xs reports h k) one)
+
 -- and then more was
 pub collects_more : {s : Semantics} → (c d e : Crew s) (xs ys zs : List Report) → Collects c d xs ys → Collects d e ys zs → Collects c e xs zs
-collects_more c d e xs ys zs h k =
+collects_more {s} c d e xs ys zs h k =
     record {
       reports = h.reports ++ k.reports;
       listed = k.listed ∙ ap (λ l. l ++ k.reports) h.listed ∙ append_assoc xs h.reports k.reports;
-      counted = k.counted ∙ ap (λ x. gains x (tallied k.reports)) h.counted
-          ∙ (λ i. record { workers = c.workers; counted = counts_append c.counted h.reports k.reports i; work = c.work });
+      taken = takes_more s c.work d.work e.work h.reports k.reports h.taken k.taken;
+      counted = k.counted ∙ ap (λ (x : Crew s). with_work (gains x (tallied k.reports)) e.work) h.counted
+          ∙ (λ i. record { workers = c.workers; counted = counts_append c.counted h.reports k.reports i; work = e.work });
     }
 
 -- the operator has reported nothing

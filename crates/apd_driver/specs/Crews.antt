@@ -2,7 +2,7 @@
 use Rattle.std.specs.Prelude.{◌≡◌, ℕ, ◌+◌, List, ◌++◌}
 use Rattle.ap_books.specs.Counts.{Counts, plus}
 use Rattle.apd_driver.specs.declared.reports.report.Report.{Report}
-use Rattle.apd_driver.specs.Following.{Looks}
+use Rattle.apd_driver.specs.Following.{Looks, TakesAll}
 use Rattle.apd_driver.specs.Semantics.{Semantics}
 use Rattle.apd_driver.specs.Tallies.{tallied}
 
@@ -28,13 +28,14 @@ with_work crew work = record { workers = crew.workers; counted = crew.counted; w
 abbrev pub Works : {s : Semantics} → Crew s → Crew s → Type 0
 Works crew crew2 = crew2 ≡ with_work crew crew2.work
 
--- nothing changed but that the operator read or summed up words
+-- nothing changed but that the operator read or summed up words, or looked at what was decided
 pub record LooksOn {s : Semantics} (crew crew2 : Crew s) : Type 0 where
   pub works : Works crew crew2
   pub looks : Looks s crew.work crew2.work
 
--- reports were appended to the list, and are what was counted
+-- reports were appended to the list; they were taken over from workers, and are what was counted
 pub record Collects {s : Semantics} (crew crew2 : Crew s) (list list2 : List Report) : Type 0 where
   pub reports : List Report
   pub listed : list2 ≡ list ++ reports
-  pub counted : crew2 ≡ gains crew (tallied reports)
+  pub taken : TakesAll s crew.work crew2.work reports
+  pub counted : crew2 ≡ with_work (gains crew (tallied reports)) crew2.work

@@ -110,10 +110,16 @@ pub data FollowsAll (s : Semantics) (old : s.Work) : List (ℕ × Asked) → s.W
   OneMore : (lines : List (ℕ × Asked)) (line : ℕ) (a : Asked) (mid new : s.Work) (reports more : List Report) → FollowsAll s old lines mid reports
       → Follows s line a mid new more → FollowsAll s old (lines ++ (line, a) ∷ []) new (reports ++ more)
 
--- the operator reads or sums up words, one after another, for a question
+-- reports were taken over from workers, one worker after another, in this order
+pub data TakesAll (s : Semantics) (old : s.Work) : s.Work → List Report → Type 0 where
+  FromNone : TakesAll s old old []
+  FromOneMore : (mid new : s.Work) (reports more : List Report) → TakesAll s old mid reports → s.Takes mid new more → TakesAll s old new (reports ++ more)
+
+-- the operator reads or sums up words, or looks at what was decided, one after another, for a question
 pub data Looks (s : Semantics) : s.Work → s.Work → Type 0 where
   AtNothing : (w : s.Work) → Looks s w w
   AtOne : (old new : s.Work) (a : Asked) (told : Option Told) → IsLook a → s.Does old new a told → Looks s old new
+  AtRows : (old new : s.Work) → s.Sees old new → Looks s old new
   AtMore : (old mid new : s.Work) → Looks s old mid → Looks s mid new → Looks s old new
 
 -- reports of this kind were appended to the list

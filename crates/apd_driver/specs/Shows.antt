@@ -16,7 +16,7 @@ use Rattle.apd_script.specs.Asked.{Asked}
 use Rattle.apd_driver.specs.Asking.{TellsAnswer, BreaksAnswer}
 use Rattle.apd_driver.specs.Crews.{Crew, LooksOn, gains, with_work}
 use Rattle.apd_driver.specs.Done.{AreBegun, AreDone}
-use Rattle.apd_driver.specs.Following.{FollowsAll}
+use Rattle.apd_driver.specs.Following.{FollowsAll, TakesAll}
 use Rattle.apd_driver.specs.Semantics.{Semantics}
 use Rattle.apd_driver.specs.Tallies.{tallied}
 use Rattle.apd_driver.specs.declared.manner.Manner.{Manner}
@@ -80,7 +80,7 @@ abbrev pub AnswerMalformed : List ℕ → List Report → Type 0
 AnswerMalformed malformed reports = map malformed_by reports ≡ map malformed_at malformed
 
 -- The reports of an interval: those of the operator, which follows the lines, those on malformed lines, and those on what
--- became of events, from the workers. They are what was counted.
+-- became of events, which it then takes over from the workers. They are what was counted.
 pub record Gathered {s : Semantics} (lines : List (ℕ × Asked)) (malformed : List ℕ) (crew crew2 : Crew s) (handed : List Report) : Type 0 where
   pub work : s.Work
   pub told : List Report
@@ -88,8 +88,9 @@ pub record Gathered {s : Semantics} (lines : List (ℕ × Asked)) (malformed : L
   pub answers : List Report
   pub on_malformed : AnswerMalformed malformed answers
   pub others : List Report
+  pub taken : TakesAll s work crew2.work others
   pub all : handed ≡ told ++ (answers ++ others)
-  pub counts : crew2 ≡ with_work (gains crew (tallied handed)) work
+  pub counts : crew2 ≡ with_work (gains crew (tallied handed)) crew2.work
 
 -- printing reports breaks off: before it begins, or within them
 pub data PrintsPart (form : Form) (old new : Option (List ℕ)) (handed : List Report) : Type 0 where

@@ -5,7 +5,7 @@ ghost use Rattle.ap_books.specs.Counts.{Counts, none};
 ghost use Rattle.ap_books.specs.Reading.{Reads};
 ghost use Rattle.apd_driver.specs.Asking.{AreAgreementsInOrder, AreStationsInOrder, AreWithinBudget};
 ghost use Rattle.apd_driver.specs.Tallies.{told_counts};
-ghost use Rattle.apd_driver.specs.Crews.{Collects, Crew, Works, with_one_more};
+ghost use Rattle.apd_driver.specs.Crews.{Collects, Crew, LooksOn, Works, with_one_more};
 ghost use Rattle.apd_driver.specs.Following.{Concerns, PutsAll, PutsFrom, WaitsAt, first_shard, for_publication, for_use, shard_end};
 ghost use Rattle.apd_driver.specs.Semantics.{Semantics};
 
@@ -68,7 +68,7 @@ pub trait Operating<W> {
 
     /// The known stations, by address.
     fn stations<R: Wait>(&mut self, rt: &R, alloc: Global) -> Result<Vec<StationRow>, AllocError>
-        ensures same { crew self.new ≡ crew self.old }
+        ensures looks { LooksOn (crew self.old) (crew self.new) }
         ensures ordered { IfOk result (λ rows. AreStationsInOrder rows.items) };
 
     /// The agreements in force, by address and TID.
@@ -77,7 +77,7 @@ pub trait Operating<W> {
         rt: &R,
         alloc: Global,
     ) -> Result<Vec<AgreementRow>, AllocError>
-        ensures same { crew self.new ≡ crew self.old }
+        ensures looks { LooksOn (crew self.old) (crew self.new) }
         ensures ordered { IfOk result (λ rows. AreAgreementsInOrder rows.items) };
 
     /// The programs in force, in the order of their hooks' numbers, with what the workers that came back have counted of
