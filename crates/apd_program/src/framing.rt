@@ -6,10 +6,10 @@ ghost use Rattle.apd_files.specs.Held.{Held};
 ghost use Rattle.apd_words.specs.Asked.{text_of};
 ghost use Rattle.apd_program.specs.Answers.{IsOfText};
 ghost use Rattle.apd_program.specs.Faults.{IsMemoryOr};
-ghost use Rattle.apd_program.specs.Scripts.{IsAddress, IsChoice, IsFor, IsUnclear, IsChosenScript, IsUnscripted, IsScript, HasNoScript};
+ghost use Rattle.apd_program.specs.Scripts.{IsAddress, IsChoice, IsFor, IsUnclear, IsPlanned, IsChosenScript, IsUnscripted, IsScript, HasNoScript};
 
 use crate::answer::Answer;
-use crate::capturing::{recording_in, span_of};
+use crate::capturing::{Span, recording_in, span_of};
 use crate::fault::{ProgramFault, of_several};
 use crate::reading::read;
 use crate::scripting::ScriptText;
@@ -123,13 +123,27 @@ fn manner(
     Ok(Manner { ticks, bssid })
 }
 
+/// How much of a capture's bytes becomes a script, and how.
+fn planned(
+    alloc: Global,
+    path: &str,
+    plan: Plan,
+    file: &[u8],
+) -> Result<(Span, Manner), ProgramFault>
+    ensures planned { IfOk result (λ found. IsPlanned plan file.now found.0 found.1) }
+    ensures fault { IfErr result (IsMemoryOr (IsUnscripted plan.choice file.now)) }
+{
+    let span = span_of(alloc, path, file)?;
+    let manner = manner(alloc, path, plan, recording_in(file, span))?;
+    Ok((span, manner))
+}
+
 /// The script of a capture's bytes; of a cut capture, it has what is before the cut.
 fn convert(alloc: Global, path: &str, plan: Plan, file: Vec<u8>) -> Result<Answer, ProgramFault>
     ensures script { IfOk result (IsChosenScript plan.ticks plan.choice file.items) }
     ensures fault { IfErr result (IsMemoryOr (IsUnscripted plan.choice file.items)) }
 {
-    let span = span_of(alloc, path, file.as_slice())?;
-    let manner = manner(alloc, path, plan, recording_in(file.as_slice(), span))?;
+    let (span, manner) = planned(alloc, path, plan, file.as_slice())?;
     let text = ScriptText::new(file, span, manner);
     match span.cut {
         None => Ok(Answer::Script(text)),

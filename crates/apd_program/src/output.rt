@@ -1,6 +1,6 @@
 //! Delivering an answer: to standard output, or to the file named for it, unless it is a refusal.
 
-ghost use Rattle.std.specs.Prelude.{◌≡◌, Err, None, IfOk, OnOk, if◌then◌else◌};
+ghost use Rattle.std.specs.Prelude.{◌≡◌, None, IfOk, IfErr, OnOk, if◌then◌else◌};
 ghost use Rattle.std.specs.Io.KnownBytes.{Appends, Keeps};
 ghost use Rattle.apd_files.specs.Beginning.{AppendsBeginning};
 ghost use Rattle.apd_files.specs.Held.{Saves};
@@ -37,8 +37,8 @@ fn print_whole<W: Write>(alloc: Global, answer: Answer, out: &mut W) -> Result<(
         (Appends (W.contents out.old) (W.contents out.new) (printed answer)) }
     ensures beginning { AppendsBeginning (W.contents out.old) (W.contents out.new)
         (printed answer) }
-    ensures memory { result ≡ Err Undelivered.NoMemory
-        → Keeps (W.contents out.old) (W.contents out.new) }
+    ensures memory { IfErr result
+        (λ e. e ≡ Undelivered.NoMemory → Keeps (W.contents out.old) (W.contents out.new)) }
 {
     let Ok(text) = answer.printed(alloc) else {
         return Err(Undelivered::NoMemory);
@@ -55,8 +55,8 @@ fn print<W: Write>(alloc: Global, answer: Answer, out: &mut W) -> Result<(), Und
         (Appends (W.contents out.old) (W.contents out.new) (printed answer)) }
     ensures beginning { AppendsBeginning (W.contents out.old) (W.contents out.new)
         (printed answer) }
-    ensures memory { result ≡ Err Undelivered.NoMemory
-        → Keeps (W.contents out.old) (W.contents out.new) }
+    ensures memory { IfErr result
+        (λ e. e ≡ Undelivered.NoMemory → Keeps (W.contents out.old) (W.contents out.new)) }
 {
     match answer {
         Answer::Script(text) => text.write(alloc, out),
@@ -76,7 +76,8 @@ fn save<F: Files>(
     ensures status { IfOk result (λ n. n ≡ status) }
     ensures saved { OnOk result
         (Saves path.now (printed answer) (F.saved files.old) (F.saved files.new)) }
-    ensures memory { result ≡ Err Undelivered.NoMemory → F.saved files.new ≡ F.saved files.old }
+    ensures memory { IfErr result
+        (λ e. e ≡ Undelivered.NoMemory → F.saved files.new ≡ F.saved files.old) }
 {
     let Ok(text) = answer.printed(alloc) else {
         return Err(Undelivered::NoMemory);

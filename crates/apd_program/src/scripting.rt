@@ -1,6 +1,6 @@
 //! The script of a capture as an answer, which is made piece by piece when it is printed.
 
-ghost use Rattle.std.specs.Prelude.{◌≡◌, Err, IfOk, OnOk, string_bytes, take};
+ghost use Rattle.std.specs.Prelude.{◌≡◌, false, IfOk, IfErr, OnOk, string_bytes, take};
 ghost use Rattle.std.specs.Io.KnownBytes.{Appends, Keeps};
 ghost use Rattle.capture.specs.Walks.{packets_in};
 ghost use Rattle.apd_files.specs.Beginning.{AppendsBeginning};
@@ -59,8 +59,8 @@ impl ScriptText {
     pub(crate) fn write<W: Write>(&self, alloc: Global, out: &mut W) -> Result<(), Undelivered>
         ensures whole { OnOk result (Appends (W.contents out.old) (W.contents out.new) self.now) }
         ensures beginning { AppendsBeginning (W.contents out.old) (W.contents out.new) self.now }
-        ensures memory { result ≡ Err Undelivered.NoMemory
-            → Keeps (W.contents out.old) (W.contents out.new) }
+        ensures memory { IfErr result
+            (λ e. e ≡ Undelivered.NoMemory → Keeps (W.contents out.old) (W.contents out.new)) }
     {
         let recording = recording_in(self.file.as_slice(), self.span);
         match ScriptRest::new(alloc, recording, self.manner) {
@@ -90,8 +90,8 @@ fn write_rest<W: Write>(
         (Appends (W.contents out.old) (W.contents out.new) script.entry.bytes) }
     ensures beginning { AppendsBeginning (W.contents out.old) (W.contents out.new)
         script.entry.bytes }
-    ensures memory { result ≡ Err Undelivered.NoMemory
-        → Keeps (W.contents out.old) (W.contents out.new) }
+    ensures memory { IfErr result
+        (λ e. e ≡ Undelivered.NoMemory → Keeps (W.contents out.old) (W.contents out.new)) }
 {
     let mut rest = script;
     let mut text = String::new(alloc);
