@@ -1,13 +1,15 @@
 -- Captures as far as they go, from their parts.
-use Rattle.std.proofs.Common.{◌≡◌, ◌≢◌, ◌∙◌, ◌⊎◌, ◌++◌, Bool, true, List, ℕ, length, map, take, drop, inl, inr, sym, ap, ap₂}
-use Rattle.std.proofs.lemmas.List.{length-map, take-append-drop}
-use Rattle.capture.specs.Captures.{Refuses}
-use Rattle.capture.specs.Packets.{seen_of}
+use Rattle.std.proofs.Common.{◌≡◌, ◌≢◌, ◌∙◌, ◌⊎◌, ◌++◌, Bool, true, List, ℕ, length, take, drop, Option, None, Some, inl, inr, sym, ap, ap₂, subst, length-append, arith}
+use Rattle.std.proofs.lemmas.List.{take-append-drop, take-append-le, take_all}
+use Rattle.capture.specs.Captures.{Holds, Refuses}
+use Rattle.capture.specs.Packets.{Seen}
+use Rattle.capture.specs.Walks.{packets_in}
 use Rattle.capture.specs.declared.fault.CaptureFault.{CaptureFault}
 use Rattle.capture.specs.declared.fault.CaptureFault.TheVariants as capture
-use Rattle.capture.specs.declared.packet.Packet.{Packet}
-use Rattle.apd_program.specs.Captured.{is_before, IsNoCapture}
+use Rattle.apd_program.specs.Captured.{is_before, IsCut, IsCaptured, IsNoCapture}
 use Rattle.apd_program.specs.Faults.{IsMemoryOr}
+use Rattle.apd_program.specs.Spans.{IsSpan}
+use Rattle.apd_program.specs.declared.capturing.Span.{Span}
 use Rattle.apd_program.specs.declared.fault.ProgramFault.{ProgramFault}
 use Rattle.apd_program.specs.declared.fault.ProgramFault.TheVariants.{NoMemory}
 use Rattle.apd_program.proofs.Faulty.{known_capture}
@@ -23,7 +25,43 @@ no_capture_by file e f refuses m (inr other) = inr (record { fault = e; known = 
 pub no_capture : (file : List ℕ) (e : CaptureFault) (f : ProgramFault) → Refuses file e → (e ≡ capture.NoMemory → f ≡ NoMemory) → IsMemoryOr (IsNoCapture file) f
 no_capture file e f refuses m = no_capture_by file e f refuses m (known_capture e)
 
--- so many bytes and packets are as many as are seen
-pub before_seen : (fault : CaptureFault) (bytes n : ℕ) (front : List ℕ) (packets : List Packet) (b : Bool) → b ≡ is_before fault bytes n → bytes ≡ length front → n ≡ length packets → b ≡ true → is_before fault (length front) (length (map seen_of packets)) ≡ true
-before_seen fault bytes n front packets b is long many holds =
-    ap (λ k. is_before fault (length front) k) (length-map packets seen_of) ∙ (ap₂ (λ (j k : ℕ). is_before fault j k) (sym long) (sym many) ∙ (sym is ∙ holds))
+-- this much of a file is before a cut
+pub IsSpan-before : (file front rest recorded : List ℕ) (s : Span) (fault : CaptureFault) (b : Bool) → Refuses file fault → file ≡ front ++ rest → recorded ≡ front → Holds front (packets_in front)
+    → length (packets_in recorded) ≡ s.count → s.end ≡ length front → s.cut ≡ Some fault → b ≡ is_before fault s.end s.count → b ≡ true → IsSpan file s
+IsSpan-before file front rest recorded s fault b refused split same held counted long is_cut is holds =
+    let took : take s.end file ≡ front =
+        ap (λ (n : ℕ). take n file) long ∙ (ap (take (length front)) split ∙ (take-append-le (length front) front rest (omega arith) ∙ take_all (length front) front (omega arith))) in
+    let many : length (packets_in front) ≡ s.count = ap (λ (l : List ℕ). length (packets_in l)) (sym same) ∙ counted in
+    let P : Option CaptureFault → Type 0 = λ c. IsCaptured file c (packets_in (take s.end file)) in
+    let Q : List ℕ → Type 0 = λ l. IsCut file fault (packets_in l) in
+    let cut : IsCut file fault (packets_in front) = record {
+      refused = refused;
+      front = front;
+      rest = rest;
+      cut = split;
+      held = held;
+      before = ap₂ (λ (j k : ℕ). is_before fault j k) (sym long) many ∙ (sym is ∙ holds);
+    } in
+    record {
+      within = omega (arith, long, ap length split, length-append front rest);
+      counted = ap (λ (l : List ℕ). length (packets_in l)) took ∙ many;
+      captured = subst P (sym is_cut) (subst Q (sym took) cut);
+    }
+
+-- this is all of a file
+pub IsSpan-whole : (file recorded : List ℕ) (s : Span) → recorded ≡ file → Holds file (packets_in file) → length (packets_in recorded) ≡ s.count → s.end ≡ length file → s.cut ≡ None → IsSpan file s
+IsSpan-whole file recorded s same held counted long is_cut =
+    let took : take s.end file ≡ file = ap (λ (n : ℕ). take n file) long ∙ take_all (length file) file (omega arith) in
+    let P : Option CaptureFault → Type 0 = λ c. IsCaptured file c (packets_in (take s.end file)) in
+    let Q : List ℕ → Type 0 = λ l. Holds file (packets_in l) in
+    record {
+      within = omega (arith, long);
+      counted = ap (λ (l : List ℕ). length (packets_in l)) (took ∙ sym same) ∙ counted;
+      captured = subst P (sym is_cut) (subst Q (sym took) held);
+    }
+
+-- packets that were read from this much of a file
+pub IsCaptured-read : (file front : List ℕ) (s : Span) (packets : List Seen) → IsSpan file s → front ≡ take s.end file → packets ≡ packets_in front → IsCaptured file s.cut packets
+IsCaptured-read file front s packets h is same =
+    let P : List Seen → Type 0 = λ l. IsCaptured file s.cut l in
+    subst P (sym (same ∙ ap packets_in is)) h.captured

@@ -11,3 +11,4 @@ pub mod Delivering
 pub mod Admits
 pub mod Evaluated
 pub mod Tested
+pub mod Pieces

@@ -1,8 +1,11 @@
 -- Scripts of captures, from their parts.
-use Rattle.std.proofs.Common.{◌≡◌, ◌∷◌, ◌∙◌, ◌<◌, ◌≤◌, ℕ, Bool, false, List, [], length, slice_index_or, Option, Some, None, Ok, inl, inr, refl, sym, ap, subst, arith}
+use Rattle.std.proofs.Common.{◌≡◌, ◌∷◌, ◌∙◌, ◌<◌, ◌≤◌, ℕ, Bool, false, List, [], length, take, slice_index_or, Option, Some, None, Ok, inl, inr, refl, sym, ap, subst, arith}
 use Rattle.std.specs.Borrow.{Bor}
 use Rattle.hex.specs.Hex.{decode_of}
 use Rattle.capture.specs.Packets.{Seen}
+use Rattle.capture.specs.Walks.{packets_in}
+use Rattle.apd_policies.specs.Script.{script_of}
+use Rattle.apd_policies.specs.declared.frames.script.Manner.{Manner}
 use Rattle.capture.specs.declared.fault.CaptureFault.{CaptureFault}
 use Rattle.apd_files.specs.Held.{Held, Holds, Lacks}
 use Rattle.apd_files.specs.declared.inputs.files.FileKind.TheVariants.{Capture}
@@ -10,7 +13,10 @@ use Rattle.apd_words.specs.Asked.{text_of}
 use Rattle.apd_program.specs.Answers.{IsOfText}
 use Rattle.apd_program.specs.Captured.{IsCaptured, IsNoCapture}
 use Rattle.apd_program.specs.Faults.{IsMemoryOr}
-use Rattle.apd_program.specs.Scripts.{IsAddress, IsChoice, GivenChosen, OnlyChosen, NoAddress, IsUnclear, IsChosenScript, IsScript, IsUnscripted, NoCapture, Unclear, HasNoScript, NoFile, NoScript}
+use Rattle.apd_program.specs.Spans.{IsSpan}
+use Rattle.apd_program.specs.declared.capturing.Span.{Span}
+use Rattle.apd_program.specs.declared.framing.Plan.{Plan}
+use Rattle.apd_program.specs.Scripts.{IsAddress, IsChoice, GivenChosen, OnlyChosen, NoAddress, IsUnclear, IsChosenScript, IsScript, IsScriptOf, IsPlanned, IsUnscripted, NoCapture, Unclear, HasNoScript, NoFile, NoScript}
 use Rattle.apd_program.specs.declared.answer.Answer.{Answer}
 use Rattle.apd_program.specs.declared.fault.ProgramFault.{ProgramFault}
 use Rattle.apd_program.specs.declared.framing.Choice.{Choice}
@@ -67,3 +73,23 @@ module _ (files : Held) (path : List ℕ) (given : Option (List ℕ)) (all : Boo
     there = there;
     said = record { choice = c; chosen = chosen; script = (let P : List ℕ → Type 0 = λ t. IsChosenScript ticks c t a in subst P same script) };
   }
+
+-- the script of this much of a file
+pub chosen_script : (p : Plan) (file slice : List ℕ) (s : Span) (m : Manner) (cut : Option CaptureFault) (text : List ℕ) → slice ≡ file → IsPlanned p slice s m → s.cut ≡ cut
+    → text ≡ script_of m.ticks m.bssid (packets_in (take s.end file)) → IsScriptOf p.ticks p.choice file cut text
+chosen_script p file slice s m cut text same h is_cut is =
+    let P : List ℕ → Type 0 = λ f. IsPlanned p f s m in
+    let q : IsPlanned p file s m = subst P same h in
+    let packets = packets_in (take s.end file) in
+    let Q : Option CaptureFault → Type 0 = λ c. IsCaptured file c packets in
+    record {
+      packets = packets;
+      captured = subst Q is_cut q.span.captured;
+      is = record { bssid = m.bssid; is_for = q.is_for; is = is ∙ ap (λ (t : Bool). script_of t m.bssid packets) q.ticks };
+    }
+
+-- a file that names several access points, in this much of it
+pub span_unclear : (c : Choice) (file recorded : List ℕ) (s : Span) (e : ProgramFault) → IsSpan file s → recorded ≡ take s.end file → IsMemoryOr (IsUnclear c (packets_in recorded)) e → IsMemoryOr (IsUnscripted c file) e
+span_unclear c file recorded s e h is bad =
+    let P : List ℕ → Type 0 = λ l. IsMemoryOr (IsUnclear c (packets_in l)) e in
+    unclear_unscripted c file s.cut (packets_in (take s.end file)) e h.captured (subst P is bad)

@@ -11,6 +11,7 @@ pub mod Texts
 pub mod Drawings
 pub mod Pages
 pub mod Captured
+pub mod Spans
 pub mod Scripts
 pub mod Evaluating
 pub mod Repeating

@@ -1,14 +1,19 @@
 -- The answer of `frames` for a capture.
-use Rattle.std.specs.Prelude.{◌≡◌, ℕ, Bool, true, false, List, length, string_bytes, Option, Some, None, Ok}
+use Rattle.std.specs.Prelude.{◌≡◌, ℕ, Bool, true, false, List, length, take, Option, Some, None, Ok}
 use Rattle.hex.specs.Hex.{decode_of}
 use Rattle.capture.specs.Packets.{Seen}
+use Rattle.capture.specs.Walks.{packets_in}
 use Rattle.capture.specs.declared.fault.CaptureFault.{CaptureFault}
 use Rattle.apd_files.specs.Held.{Held, Holds, Lacks}
 use Rattle.apd_files.specs.declared.inputs.files.FileKind.TheVariants.{Capture}
 use Rattle.apd_policies.specs.Chosen.{AreNamed, points_of}
 use Rattle.apd_policies.specs.Script.{script_of}
 use Rattle.apd_policies.specs.declared.frames.chosen.Named.TheVariants.{NoOne, One, Several}
+use Rattle.apd_policies.specs.declared.frames.script.Manner.{Manner}
 use Rattle.apd_program.specs.Captured.{IsCaptured, IsNoCapture}
+use Rattle.apd_program.specs.Spans.{IsSpan}
+use Rattle.apd_program.specs.declared.capturing.Span.{Span}
+use Rattle.apd_program.specs.declared.framing.Plan.{Plan}
 use Rattle.apd_program.specs.declared.answer.Answer.{Answer}
 use Rattle.apd_program.specs.declared.answer.Answer.TheVariants.{Script, CutScript}
 use Rattle.apd_program.specs.declared.framing.Choice.{Choice}
@@ -43,6 +48,12 @@ pub record IsUnclear (c : Choice) (packets : List Seen) : Type 0 where
   pub only : c ≡ choice.Only
   pub named : AreNamed (points_of packets) Several
 
+-- how much of a file becomes the script that is wanted, and how
+pub record IsPlanned (p : Plan) (file : List ℕ) (s : Span) (m : Manner) : Type 0 where
+  pub span : IsSpan file s
+  pub ticks : m.ticks ≡ p.ticks
+  pub is_for : IsFor (packets_in (take s.end file)) p.choice m.bssid
+
 -- the text is the script of the file's packets, or of those before a fault
 pub record IsScriptOf (ticks : Bool) (c : Choice) (file : List ℕ) (cut : Option CaptureFault) (text : List ℕ) : Type 0 where
   pub packets : List Seen
@@ -51,8 +62,8 @@ pub record IsScriptOf (ticks : Bool) (c : Choice) (file : List ℕ) (cut : Optio
 
 -- the script, with the frames that are chosen
 abbrev pub IsChosenScript : Bool → Choice → List ℕ → Answer → Type 0
-IsChosenScript ticks c file (Script text) = IsScriptOf ticks c file None (string_bytes text)
-IsChosenScript ticks c file (CutScript text fault) = IsScriptOf ticks c file (Some fault) (string_bytes text)
+IsChosenScript ticks c file (Script text) = IsScriptOf ticks c file None text
+IsChosenScript ticks c file (CutScript text fault) = IsScriptOf ticks c file (Some fault) text
 IsChosenScript ticks c file _ = ⊥
 
 -- `frames`: the script

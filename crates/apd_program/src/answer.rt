@@ -5,6 +5,7 @@ ghost use Rattle.apd_program.specs.Refusing.{IsUndecoded, IsRefused};
 ghost use Rattle.apd_program.specs.Slots.{digits_line, slot_lines};
 
 use crate::fault::ProgramFault;
+use crate::scripting::ScriptText;
 use bpf_cert::WithinFault;
 use bpf_decode::DecodeFault;
 use bpf_text::AsmFault;
@@ -16,29 +17,46 @@ use std::alloc::{AllocError, Global};
 #[derive(Drop)]
 pub enum Answer {
     /// The program is safe, and executes at most `budget` instructions.
-    Accepted { budget: u32 },
+    Accepted {
+        budget: u32,
+    },
     /// The code of assembler text.
     Code(Vec<u8>),
     /// The text of code: a line for each instruction, or for each slot.
     Instructions(String),
     /// The graph of a program that the verifier refuses, up to where it stopped.
-    RefusedGraph { text: String, refusal: Refusal },
+    RefusedGraph {
+        text: String,
+        refusal: Refusal,
+    },
     /// The text of a run: a line for each step and each note, and the result.
     Run(String),
     /// The verdicts on a capture's packets: a table, or lines of JSON.
     Verdicts(String),
     /// The verdicts that differ between two programs; `differs` if there are any.
-    Differences { text: String, differs: bool },
+    Differences {
+        text: String,
+        differs: bool,
+    },
     /// The verdicts, or those that differ, on the packets before the fault of a cut capture.
-    CutVerdicts { text: String, fault: CaptureFault },
+    CutVerdicts {
+        text: String,
+        fault: CaptureFault,
+    },
     /// The page on a refusal's number, or the list of all numbers.
     Page(String),
     /// The frames of a capture as a script.
-    Script(String),
+    Script(ScriptText),
     /// The frames before the fault of a cut capture, as a script.
-    CutScript { text: String, fault: CaptureFault },
+    CutScript {
+        text: ScriptText,
+        fault: CaptureFault,
+    },
     /// The lines of a file of cases; `is_good` if it has an expectation, and all are met.
-    Tested { text: String, is_good: bool },
+    Tested {
+        text: String,
+        is_good: bool,
+    },
     /// A help text.
     Help(String),
     /// The code isn't well formed (1 to 3, 10 to 19).
@@ -96,9 +114,10 @@ impl Answer {
             Answer::Accepted { budget } => format!(in alloc; "accepted budget {budget}\n"),
             Answer::Code(code) => slot_lines(alloc, code.as_slice()),
             Answer::Instructions(text) | Answer::Run(text) => Ok(text),
-            Answer::Page(text) | Answer::Script(text) | Answer::Help(text) => Ok(text),
+            Answer::Page(text) | Answer::Help(text) => Ok(text),
+            Answer::Script(text) | Answer::CutScript { text, .. } => text.whole(alloc),
             Answer::Verdicts(text) => Ok(text),
-            Answer::CutScript { text, .. } | Answer::RefusedGraph { text, .. } => Ok(text),
+            Answer::RefusedGraph { text, .. } => Ok(text),
             Answer::CutVerdicts { text, .. } => Ok(text),
             Answer::Tested { text, .. } | Answer::Differences { text, .. } => Ok(text),
             Answer::Fault(fault) => format!(in alloc; "{fault}\n"),

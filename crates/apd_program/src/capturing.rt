@@ -1,19 +1,30 @@
 //! Captures as far as they go: all packets, or, if a capture is cut, those before the cut.
 
-ghost use Rattle.std.specs.Prelude.{◌≡◌, ◌++◌, ℕ, List, IfOk, IfErr, IfSome, map};
+ghost use Rattle.std.specs.Prelude.{◌≡◌, ◌++◌, ℕ, List, IfOk, IfErr, IfSome, map, take};
 ghost use Rattle.capture.specs.Captures.{Refuses};
 ghost use Rattle.capture.specs.Packets.{seen_of};
 ghost use Rattle.apd_program.specs.Captured.{is_before, IsCaptured, IsNoCapture};
 ghost use Rattle.apd_program.specs.Faults.{IsMemoryOr};
+ghost use Rattle.apd_program.specs.Spans.{IsSpan};
 
 use crate::fault::{ProgramFault, of_capture};
-use capture::{CaptureFault, Packet, read_capture};
+use capture::{CaptureFault, Packet, Recording, read_capture};
 use std::alloc::Global;
 
 /// The packets of a capture, or, if it is cut at this fault, those before that.
 #[derive(Drop)]
 pub(crate) struct Captured<'a> {
     pub packets: Vec<Packet<'a>>,
+    pub cut: Option<CaptureFault>,
+}
+
+/// How much of a capture is read: all, or, if it is cut at this fault, what is before that.
+#[derive(Clone, Copy)]
+pub(crate) struct Span {
+    /// How many bytes.
+    pub end: usize,
+    /// How many packets they hold.
+    pub count: usize,
     pub cut: Option<CaptureFault>,
 }
 
@@ -72,31 +83,57 @@ fn is_before(fault: CaptureFault, bytes: usize, packets: usize) -> bool
     }
 }
 
-/// The packets before a fault, if that is a cut.
-fn read_front<'a>(
+/// How much of a capture is before a fault, if that is a cut.
+fn span_before(
     alloc: Global,
     path: &str,
-    file: &'a [u8],
+    file: &[u8],
     fault: CaptureFault,
-) -> Result<Captured<'a>, ProgramFault>
+) -> Result<Span, ProgramFault>
     requires refused { Refuses file.now fault }
-    ensures captured { IfOk result
-        (λ c. IsCaptured file.entry.now c.cut (map seen_of c.packets.items)) }
-    ensures fault { IfErr result (IsMemoryOr (IsNoCapture file.entry.now)) }
+    ensures span { IfOk result (IsSpan file.now) }
+    ensures fault { IfErr result (IsMemoryOr (IsNoCapture file.now)) }
 {
     let Some(front) = front_of(file, fault) else {
         return Err(of_capture(alloc, path, fault));
     };
-    let packets = match read_capture(alloc, front) {
-        Ok(packets) => packets,
+    let recording = match Recording::new(alloc, front) {
+        Ok(recording) => recording,
         Err(CaptureFault::NoMemory) => return Err(ProgramFault::NoMemory),
         Err(_) => return Err(of_capture(alloc, path, fault)),
     };
-    if is_before(fault, front.len(), packets.len()) {
+    let end = front.len();
+    let count = recording.count;
+    if is_before(fault, end, count) {
         let cut = Some(fault);
-        return Ok(Captured { packets, cut });
+        return Ok(Span { end, count, cut });
     }
     Err(of_capture(alloc, path, fault))
+}
+
+/// How much of a capture is read: all, or, if it is cut, what is before that. `path` names it if it isn't a capture.
+pub(crate) fn span_of(alloc: Global, path: &str, file: &[u8]) -> Result<Span, ProgramFault>
+    ensures span { IfOk result (IsSpan file.now) }
+    ensures fault { IfErr result (IsMemoryOr (IsNoCapture file.now)) }
+{
+    match Recording::new(alloc, file) {
+        Ok(recording) => Ok(Span {
+            end: file.len(),
+            count: recording.count,
+            cut: None,
+        }),
+        Err(fault) => span_before(alloc, path, file, fault),
+    }
+}
+
+/// This much of a file.
+pub(crate) fn recording_in(file: &[u8], span: Span) -> Recording<'_>
+    requires span { IsSpan file.now span }
+    ensures bytes { result.bytes.now ≡ take span.end file.entry.now }
+{
+    let (bytes, _) = file.split_at(span.end);
+    let count = span.count;
+    Recording { bytes, count }
 }
 
 /// The packets of a capture, or, if it is cut, those before that. `path` names it if it isn't a capture.
@@ -109,8 +146,13 @@ pub(crate) fn read_packets<'a>(
         (λ c. IsCaptured file.entry.now c.cut (map seen_of c.packets.items)) }
     ensures fault { IfErr result (IsMemoryOr (IsNoCapture file.entry.now)) }
 {
-    match read_capture(alloc, file) {
-        Ok(packets) => Ok(Captured { packets, cut: None }),
-        Err(fault) => read_front(alloc, path, file, fault),
+    let span = span_of(alloc, path, file)?;
+    let (front, _) = file.split_at(span.end);
+    match read_capture(alloc, front) {
+        Ok(packets) => Ok(Captured {
+            packets,
+            cut: span.cut,
+        }),
+        Err(_) => Err(ProgramFault::NoMemory),
     }
 }

@@ -1,21 +1,22 @@
 //! A capture as a script: the command `frames`.
 
-ghost use Rattle.std.specs.Prelude.{◌≡◌, ℕ, List, IfOk, IfErr, map, string_bytes};
-ghost use Rattle.capture.specs.Packets.{seen_of};
+ghost use Rattle.std.specs.Prelude.{◌≡◌, ℕ, List, IfOk, IfErr};
+ghost use Rattle.capture.specs.Walks.{packets_in};
 ghost use Rattle.apd_files.specs.Held.{Held};
 ghost use Rattle.apd_words.specs.Asked.{text_of};
 ghost use Rattle.apd_program.specs.Answers.{IsOfText};
 ghost use Rattle.apd_program.specs.Faults.{IsMemoryOr};
-ghost use Rattle.apd_program.specs.Scripts.{IsAddress, IsChoice, IsFor, IsScriptFor, IsUnclear, IsChosenScript, IsUnscripted, IsScript, HasNoScript};
+ghost use Rattle.apd_program.specs.Scripts.{IsAddress, IsChoice, IsFor, IsUnclear, IsPlanned, IsChosenScript, IsUnscripted, IsScript, HasNoScript};
 
 use crate::answer::Answer;
-use crate::capturing::{Captured, read_packets};
+use crate::capturing::{Span, recording_in, span_of};
 use crate::fault::{ProgramFault, of_several};
 use crate::reading::read;
+use crate::scripting::ScriptText;
 use apd_files::{FileKind, Files};
-use apd_policies::{Bssid, Manner, Named, access_points, script_text};
+use apd_policies::{Bssid, Manner, Named, access_points};
 use apd_words::Conversion;
-use capture::Packet;
+use capture::Recording;
 use hex::FromHexError;
 use std::alloc::Global;
 
@@ -70,57 +71,81 @@ fn chosen(alloc: Global, asked: Conversion<'_>) -> Result<Choice, ProgramFault>
     }
 }
 
-/// The access point for whose frames the script of these packets is, or `None` if it is for all frames. `path` names the
+/// The only access point that the packets of a capture name, or `None` if they name none. `path` names the capture if its
+/// frames name several.
+fn only(alloc: Global, path: &str, recording: Recording<'_>) -> Result<Option<Bssid>, ProgramFault>
+    ensures bssid { IfOk result (IsFor (packets_in recording.entry.bytes.now) Choice.Only) }
+    ensures unclear { IfErr result
+        (IsMemoryOr (IsUnclear Choice.Only (packets_in recording.entry.bytes.now))) }
+{
+    let named = access_points(alloc, recording)?;
+    match named {
+        Named::NoOne => Ok(None),
+        Named::One(bssid) => Ok(Some(bssid)),
+        Named::Several => Err(of_several(alloc, path)),
+    }
+}
+
+/// The access point for whose frames the script of a capture is, or `None` if it is for all frames. `path` names the
 /// capture if its frames name several.
 fn bssid(
     alloc: Global,
     path: &str,
     choice: Choice,
-    packets: &[Packet<'_>],
+    recording: Recording<'_>,
 ) -> Result<Option<Bssid>, ProgramFault>
-    ensures bssid { IfOk result (IsFor (map seen_of packets.now) choice) }
-    ensures unclear { IfErr result (IsMemoryOr (IsUnclear choice (map seen_of packets.now))) }
+    ensures bssid { IfOk result (IsFor (packets_in recording.entry.bytes.now) choice) }
+    ensures unclear { IfErr result
+        (IsMemoryOr (IsUnclear choice (packets_in recording.entry.bytes.now))) }
 {
     match choice {
         Choice::All => Ok(None),
         Choice::Given(bssid) => Ok(Some(bssid)),
-        Choice::Only => match access_points(packets) {
-            Named::NoOne => Ok(None),
-            Named::One(bssid) => Ok(Some(bssid)),
-            Named::Several => Err(of_several(alloc, path)),
-        },
+        Choice::Only => only(alloc, path, recording),
     }
 }
 
-/// The script of packets.
-fn script(
+/// How a capture becomes the script that is wanted.
+fn manner(
     alloc: Global,
     path: &str,
     plan: Plan,
-    packets: &[Packet<'_>],
-) -> Result<String, ProgramFault>
-    ensures script { IfOk result (λ text. IsScriptFor plan.ticks plan.choice
-        (map seen_of packets.now) (string_bytes text)) }
+    recording: Recording<'_>,
+) -> Result<Manner, ProgramFault>
+    ensures ticks { IfOk result (λ manner. manner.ticks ≡ plan.ticks) }
+    ensures bssid { IfOk result
+        (λ manner. IsFor (packets_in recording.entry.bytes.now) plan.choice manner.bssid) }
     ensures unclear { IfErr result
-        (IsMemoryOr (IsUnclear plan.choice (map seen_of packets.now))) }
+        (IsMemoryOr (IsUnclear plan.choice (packets_in recording.entry.bytes.now))) }
 {
-    let bssid = bssid(alloc, path, plan.choice, packets)?;
-    let manner = Manner {
-        ticks: plan.ticks,
-        bssid,
-    };
-    let text = script_text(alloc, packets, manner)?;
-    Ok(text)
+    let bssid = bssid(alloc, path, plan.choice, recording)?;
+    let ticks = plan.ticks;
+    Ok(Manner { ticks, bssid })
+}
+
+/// How much of a capture's bytes becomes a script, and how.
+fn planned(
+    alloc: Global,
+    path: &str,
+    plan: Plan,
+    file: &[u8],
+) -> Result<(Span, Manner), ProgramFault>
+    ensures planned { IfOk result (λ found. IsPlanned plan file.now found.0 found.1) }
+    ensures fault { IfErr result (IsMemoryOr (IsUnscripted plan.choice file.now)) }
+{
+    let span = span_of(alloc, path, file)?;
+    let manner = manner(alloc, path, plan, recording_in(file, span))?;
+    Ok((span, manner))
 }
 
 /// The script of a capture's bytes; of a cut capture, it has what is before the cut.
-fn convert(alloc: Global, path: &str, plan: Plan, file: &[u8]) -> Result<Answer, ProgramFault>
-    ensures script { IfOk result (IsChosenScript plan.ticks plan.choice file.now) }
-    ensures fault { IfErr result (IsMemoryOr (IsUnscripted plan.choice file.now)) }
+fn convert(alloc: Global, path: &str, plan: Plan, file: Vec<u8>) -> Result<Answer, ProgramFault>
+    ensures script { IfOk result (IsChosenScript plan.ticks plan.choice file.items) }
+    ensures fault { IfErr result (IsMemoryOr (IsUnscripted plan.choice file.items)) }
 {
-    let Captured { packets, cut } = read_packets(alloc, path, file)?;
-    let text = script(alloc, path, plan, packets.as_slice())?;
-    match cut {
+    let (span, manner) = planned(alloc, path, plan, file.as_slice())?;
+    let text = ScriptText::new(file, span, manner);
+    match span.cut {
         None => Ok(Answer::Script(text)),
         Some(fault) => Ok(Answer::CutScript { text, fault }),
     }
@@ -143,6 +168,6 @@ pub(crate) fn frames<F: Files>(
         choice,
     };
     let file = read(alloc, asked.capture, FileKind::Capture, files)?;
-    let answer = convert(alloc, asked.capture, plan, file.as_slice())?;
+    let answer = convert(alloc, asked.capture, plan, file)?;
     Ok(answer)
 }

@@ -1,8 +1,12 @@
 //! Delivering an answer: to standard output, or to the file named for it, unless it is a refusal.
 
-ghost use Rattle.std.specs.Prelude.{◌≡◌, None, if◌then◌else◌};
+ghost use Rattle.std.specs.Prelude.{◌≡◌, None, IfOk, IfErr, OnOk, if◌then◌else◌};
+ghost use Rattle.std.specs.Io.KnownBytes.{Appends, Keeps};
+ghost use Rattle.apd_files.specs.Beginning.{AppendsBeginning};
+ghost use Rattle.apd_files.specs.Held.{Saves};
 ghost use Rattle.apd_words.specs.Asked.{text_of};
 ghost use Rattle.apd_program.specs.Delivered.{Delivers, Stores, status_after};
+ghost use Rattle.apd_program.specs.Lines.{printed};
 
 use crate::answer::Answer;
 use crate::printing::{NO_MEMORY, say, unsaved, unwritten};
@@ -27,6 +31,63 @@ fn file_for<'a>(output: Option<&'a str>, is_output: bool) -> Option<&'a str>
     if is_output { output } else { None }
 }
 
+/// Writes the text of an answer other than a script, as a whole.
+fn print_whole<W: Write>(alloc: Global, answer: Answer, out: &mut W) -> Result<(), Undelivered>
+    ensures whole { OnOk result
+        (Appends (W.contents out.old) (W.contents out.new) (printed answer)) }
+    ensures beginning { AppendsBeginning (W.contents out.old) (W.contents out.new)
+        (printed answer) }
+    ensures memory { IfErr result
+        (λ e. e ≡ Undelivered.NoMemory → Keeps (W.contents out.old) (W.contents out.new)) }
+{
+    let Ok(text) = answer.printed(alloc) else {
+        return Err(Undelivered::NoMemory);
+    };
+    match write_whole(out, text.as_bytes()) {
+        Ok(()) => Ok(()),
+        Err(Unwritten(why)) => Err(Undelivered::Unwritten(why)),
+    }
+}
+
+/// Writes the text of an answer. A script is written in pieces.
+fn print<W: Write>(alloc: Global, answer: Answer, out: &mut W) -> Result<(), Undelivered>
+    ensures whole { OnOk result
+        (Appends (W.contents out.old) (W.contents out.new) (printed answer)) }
+    ensures beginning { AppendsBeginning (W.contents out.old) (W.contents out.new)
+        (printed answer) }
+    ensures memory { IfErr result
+        (λ e. e ≡ Undelivered.NoMemory → Keeps (W.contents out.old) (W.contents out.new)) }
+{
+    match answer {
+        Answer::Script(text) => text.write(alloc, out),
+        Answer::CutScript { text, .. } => text.write(alloc, out),
+        other => print_whole(alloc, other, out),
+    }
+}
+
+/// Saves an answer in a file, and returns this status.
+fn save<F: Files>(
+    alloc: Global,
+    answer: Answer,
+    status: u8,
+    path: &str,
+    files: &mut F,
+) -> Result<u8, Undelivered>
+    ensures status { IfOk result (λ n. n ≡ status) }
+    ensures saved { OnOk result
+        (Saves path.now (printed answer) (F.saved files.old) (F.saved files.new)) }
+    ensures memory { IfErr result
+        (λ e. e ≡ Undelivered.NoMemory → F.saved files.new ≡ F.saved files.old) }
+{
+    let Ok(text) = answer.printed(alloc) else {
+        return Err(Undelivered::NoMemory);
+    };
+    match files.save(path, text.as_bytes()) {
+        Ok(()) => Ok(status),
+        Err(Unwritten(why)) => Err(Undelivered::Unsaved(why)),
+    }
+}
+
 /// Writes an answer, and returns its status.
 pub(crate) fn deliver<F: Files, W: Write>(
     alloc: Global,
@@ -42,17 +103,11 @@ pub(crate) fn deliver<F: Files, W: Write>(
 {
     let status = answer.status();
     let is_output = answer.is_output();
-    let Ok(text) = answer.printed(alloc) else {
-        return Err(Undelivered::NoMemory);
-    };
     match file_for(output, is_output) {
-        Some(path) => match files.save(path, text.as_bytes()) {
+        Some(path) => save(alloc, answer, status, path, files),
+        None => match print(alloc, answer, out) {
             Ok(()) => Ok(status),
-            Err(Unwritten(why)) => Err(Undelivered::Unsaved(why)),
-        },
-        None => match write_whole(out, text.as_bytes()) {
-            Ok(()) => Ok(status),
-            Err(Unwritten(why)) => Err(Undelivered::Unwritten(why)),
+            Err(undelivered) => Err(undelivered),
         },
     }
 }

@@ -1,4 +1,4 @@
-use Rattle.std.proofs.Common.{rules}
+use Rattle.std.proofs.Common.{rules, refl}
 use Rattle.std.specs.Result.{IfErr}
 use Rattle.std.proofs.lemmas.Result.{IfErr-weaker}
 use Rattle.apd_files.specs.Held.{Lacks}
@@ -16,8 +16,8 @@ returns-in_err-file-clause-fault g c =
 
 pub returns-in_err-answer-clause-fault : goal.returns-in_err-answer-clause-fault
 returns-in_err-answer-clause-fault g c =
-    let bad : IfErr c.from_residual-in_err-answer.result (IsMemoryOr (IsUnscripted c.in_ok-choice.choice c.as_slice.result.now)) = search rules in
-    IfErr-weaker c.from_residual-in_err-answer.result _ _ (λ e h. no_script (g.F.Files.held c.args.files.now) c.args.asked.capture.now (text_of c.args.asked.bssid) c.args.asked.all c.in_ok-choice.choice _ _ e c.as_slice.ensures.value c.in_ok-choice.ensures.choice c.in_ok-file.ensures.there h) bad
+    let bad : IfErr c.from_residual-in_err-answer.result (IsMemoryOr (IsUnscripted c.in_ok-choice.choice c.in_ok-file.file.items)) = search rules in
+    IfErr-weaker c.from_residual-in_err-answer.result _ _ (λ e h. no_script (g.F.Files.held c.args.files.now) c.args.asked.capture.now (text_of c.args.asked.bssid) c.args.asked.all c.in_ok-choice.choice _ _ e refl c.in_ok-choice.ensures.choice c.in_ok-file.ensures.there h) bad
 
 pub returns-clause-script : goal.returns-clause-script
-returns-clause-script g c = scripted (g.F.Files.held c.args.files.now) c.args.asked.capture.now (text_of c.args.asked.bssid) c.args.asked.all c.args.asked.ticks c.in_ok-choice.choice _ _ c.in_ok-answer.answer c.as_slice.ensures.value c.in_ok-choice.ensures.choice c.in_ok-file.ensures.there c.in_ok-answer.ensures.script
+returns-clause-script g c = scripted (g.F.Files.held c.args.files.now) c.args.asked.capture.now (text_of c.args.asked.bssid) c.args.asked.all c.args.asked.ticks c.in_ok-choice.choice _ _ c.in_ok-answer.answer refl c.in_ok-choice.ensures.choice c.in_ok-file.ensures.there c.in_ok-answer.ensures.script

@@ -1,34 +1,22 @@
-use Rattle.std.proofs.Common.{refl}
-use Rattle.apd_program.specs.Delivered.{Printed, Stored, Begun, Unstored, Nothing, OneFile, BrokenFile}
-use Rattle.apd_program.proofs.Delivering.{for_file, is_named, goes, goes_out}
-use Rattle.apd_program.proofs.Kept.{Keeps-same}
+use Rattle.std.proofs.Common.{sym}
+use Rattle.apd_program.specs.Delivered.{Printed}
+use Rattle.apd_program.proofs.Delivering.{for_file, is_named, goes, goes_out, unprinted, stored, stores}
 use Rattle.apd_program.proofs.output.deliver.Goals as goal
 
-pub returns-in_default-clause-out : goal.returns-in_default-clause-out
-returns-in_default-clause-out g c = Nothing (Keeps-same _)
-
-pub returns-in-Ok-save-clause-out : goal.returns-in-Ok-save-clause-out
-returns-in-Ok-save-clause-out g c =
-    rw c.status-status.ensures.is (Stored (for_file _ _ _ (rw c.is_output-is_output.ensures.is at c.in-Some.ensures.is)) (Keeps-same _))
-
-pub returns-in-Ok-save-clause-saved : goal.returns-in-Ok-save-clause-saved
-returns-in-Ok-save-clause-saved g c =
-    let named = rw c.is_output-is_output.ensures.is at c.in-Some.ensures.is in
-    OneFile c.in-Some.path.now (is_named _ _ _ named) (goes _ _ _ named)
-    (rw c.in-Ok.ensures.is at (rw c.as_bytes.ensures.value at c.in-Ok-save.ensures.saved))
-
 pub returns-in-Some-clause-out : goal.returns-in-Some-clause-out
-returns-in-Some-clause-out g c = Unstored _ (λ e. cc) (for_file _ _ _ (rw c.is_output-is_output.ensures.is at c.in-Some.ensures.is)) (Keeps-same _)
+returns-in-Some-clause-out g c =
+    let named = rw c.is_output-is_output.ensures.is at c.in-Some.ensures.is in
+    stored c.args.answer _ _ c.status-status.result c.save.result (for_file _ _ _ named) c.status-status.ensures.is c.save.ensures.status
 
 pub returns-in-Some-clause-saved : goal.returns-in-Some-clause-saved
-returns-in-Some-clause-saved g c = BrokenFile _ refl (for_file _ _ _ (rw c.is_output-is_output.ensures.is at c.in-Some.ensures.is))
+returns-in-Some-clause-saved g c =
+    let named = rw c.is_output-is_output.ensures.is at c.in-Some.ensures.is in
+    stores c.args.answer _ c.in-Some.path.now _ _ c.save.result (is_named _ _ _ named) (goes _ _ _ named) (for_file _ _ _ named) c.save.ensures.saved c.save.ensures.memory
 
-pub returns-in-Ok-write_whole-clause-out : goal.returns-in-Ok-write_whole-clause-out
-returns-in-Ok-write_whole-clause-out g c =
+pub returns-in-Ok-clause-out : goal.returns-in-Ok-clause-out
+returns-in-Ok-clause-out g c =
     rw c.status-status.ensures.is
-    (Printed (goes_out _ _ (rw c.is_output-is_output.ensures.is at c.in-None.ensures.is))
-    (rw c.in-Ok.ensures.is at (rw c.as_bytes-in-None.ensures.value at c.in-Ok-write_whole.ensures.whole)))
+    (Printed (goes_out _ _ (rw c.is_output-is_output.ensures.is at c.in-None.ensures.is)) c.in-Ok.ensures.whole)
 
 pub returns-clause-out : goal.returns-clause-out
-returns-clause-out g c =
-    Begun _ (λ e. cc) (rw c.in-Ok.ensures.is at (rw c.as_bytes-in-None.ensures.value at c.write_whole.ensures.beginning))
+returns-clause-out g c = unprinted c.args.answer _ _ _ c.in-Err.undelivered c.in-Err.ensures.beginning c.in-Err.ensures.memory
