@@ -30,7 +30,7 @@ pub IsSpan-before : (file front rest recorded : List ℕ) (s : Span) (fault : Ca
     → length (packets_in recorded) ≡ s.count → s.end ≡ length front → s.cut ≡ Some fault → b ≡ is_before fault s.end s.count → b ≡ true → IsSpan file s
 IsSpan-before file front rest recorded s fault b refused split same held counted long is_cut is holds =
     let took : take s.end file ≡ front =
-        ap (λ (n : ℕ). take n file) long ∙ (ap (take (length front)) split ∙ (take-append-le (length front) front rest (omega arith) ∙ take_all (length front) front (omega arith))) in
+    ap (λ (n : ℕ). take n file) long ∙ (ap (take (length front)) split ∙ (take-append-le (length front) front rest (omega arith) ∙ take_all (length front) front (omega arith))) in
     let many : length (packets_in front) ≡ s.count = ap (λ (l : List ℕ). length (packets_in l)) (sym same) ∙ counted in
     let P : Option CaptureFault → Type 0 = λ c. IsCaptured file c (packets_in (take s.end file)) in
     let Q : List ℕ → Type 0 = λ l. IsCut file fault (packets_in l) in

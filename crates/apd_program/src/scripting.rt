@@ -101,8 +101,9 @@ fn write_rest<W: Write>(
         let Ok(more) = rest.append_piece(alloc, &mut text) else {
             return Err(lacking(begun));
         };
-        if let Err(Unwritten(why)) = write_whole(out, text.as_bytes()) {
-            return Err(Undelivered::Unwritten(why));
+        match write_whole(out, text.as_bytes()) {
+            Ok(()) => {}
+            Err(Unwritten(why)) => return Err(Undelivered::Unwritten(why)),
         }
         if !more {
             return Ok(());

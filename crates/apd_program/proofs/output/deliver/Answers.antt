@@ -1,4 +1,3 @@
-use Rattle.std.proofs.Common.{sym}
 use Rattle.apd_program.specs.Delivered.{Printed}
 use Rattle.apd_program.proofs.Delivering.{for_file, is_named, goes, goes_out, unprinted, stored, stores}
 use Rattle.apd_program.proofs.output.deliver.Goals as goal
@@ -18,5 +17,5 @@ returns-in-Ok-clause-out g c =
     rw c.status-status.ensures.is
     (Printed (goes_out _ _ (rw c.is_output-is_output.ensures.is at c.in-None.ensures.is)) c.in-Ok.ensures.whole)
 
-pub returns-clause-out : goal.returns-clause-out
-returns-clause-out g c = unprinted c.args.answer _ _ _ c.in-Err.undelivered c.in-Err.ensures.beginning c.in-Err.ensures.memory
+pub returns-in-Err-clause-out : goal.returns-in-Err-clause-out
+returns-in-Err-clause-out g c = unprinted c.args.answer _ _ _ c.in-Err.undelivered c.in-Err.ensures.beginning c.in-Err.ensures.memory

@@ -3,7 +3,7 @@ use Rattle.std.proofs.Common.{◌≡◌, ◌++◌, List, ℕ, false}
 use Rattle.std.specs.Io.KnownBytes.{Appends, Keeps}
 use Rattle.apd_program.proofs.scripting.write_rest.Given as goal
 
-abbrev pub invariant-loop-more : goal.invariant-loop-rest
+abbrev pub invariant-loop-more : goal.invariant-loop-more
 invariant-loop-more g l = record {
   written : List ℕ;
   appended : Appends (g.W.Write.contents l.initial.out) (g.W.Write.contents l.out) written;
@@ -11,5 +11,5 @@ invariant-loop-more g l = record {
   unbegun : l.begun ≡ false → Keeps (g.W.Write.contents l.initial.out) (g.W.Write.contents l.out);
 }
 
-abbrev pub decreases-loop-more : goal.decreases-loop-rest
+abbrev pub decreases-loop-more : goal.decreases-loop-more
 decreases-loop-more g l = l.rest.packets
