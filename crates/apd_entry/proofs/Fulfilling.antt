@@ -1,5 +1,5 @@
 -- What the program does where memory is short.
-use Rattle.std.proofs.Common.{◌≡◌, ◌<◌, ⊥, ℕ, Bool, List, Option, arith, inr, refl}
+use Rattle.std.proofs.Common.{◌≡◌, ◌<◌, ℕ, Bool, List, Option, arith, inr, refl}
 use Rattle.apd_run.specs.NewRuns.{NotRead}
 use Rattle.apd_files.specs.Held.{Held}
 use Rattle.apd_words.specs.Asked.{Wanted, Run as RunWanted, Live as LiveWanted, Answer as AnswerWanted}

@@ -1,8 +1,8 @@
 -- Runs that keep a capture.
-use Rattle.std.proofs.Common.{◌≡◌, ℕ, Bool, true, false, List, Option, Some, None, ap, subst, if◌then◌else◌, absurd}
+use Rattle.std.proofs.Common.{◌≡◌, ℕ, Bool, true, false, List, Option, Some, None, ap, subst, if◌then◌else◌}
 use Rattle.std.specs.Prelude.{IsSome}
 use Rattle.apd_files.specs.Held.{Held}
-use Rattle.apd_driver.specs.Capturing.{IsKnown, Recorded}
+use Rattle.apd_driver.specs.Capturing.{IsKnown}
 use Rattle.apd_driver.specs.declared.manner.Manner.{Manner}
 use Rattle.apd_run.specs.Captured.{KeepsScript}
 use Rattle.apd_entry.specs.Captured.{KeepsInPlace, is_in_place, lines_known}
@@ -21,7 +21,7 @@ beside_them P capture old new is p =
 
 -- a capture is known, if what was written to its writer is
 pub written_known : (o : Option (List ℕ)) (time : ℕ) → IsSome o → IsKnown (Some (o, time))
-written_known (Some bytes) time w = ()
+written_known (Some bytes) time w = tt
 written_known None time w = absurd (cc)
 
 -- what is known of captures, if one thing is, is known of them if another is from which that follows
@@ -31,14 +31,16 @@ pub keeps_under : (files : Held) (script : List ℕ) (known known2 : Type 0) (ma
     → KeepsInPlace known2 files script manner old new
 keeps_under files script known known2 manner old new time time2 f e k =
     let s : KeepsScript files script known manner.form None None (Some (old, 0)) (Some (new, time2)) =
-    subst (λ (t : ℕ). KeepsScript files script known manner.form None None (Some (old, t)) (Some (new, time2))) e k in
-    (time2, record {
-      lines = s.lines;
-      is_script = s.is_script;
-      keeps = record {
-        begun = s.keeps.begun;
-        begins = λ k2. s.keeps.begins (f k2);
-        whole = s.keeps.whole;
-        capture = λ k2. s.keeps.capture (f k2);
-      };
-    })
+    subst (λ (t : ℕ). KeepsScript files script known manner.form None None (Some (old, t)) (Some (new, time2))) e k in (
+      time2,
+      record {
+        lines = s.lines;
+        is_script = s.is_script;
+        keeps = record {
+          begun = s.keeps.begun;
+          begins = λ k2. s.keeps.begins (f k2);
+          whole = s.keeps.whole;
+          capture = λ k2. s.keeps.capture (f k2);
+        };
+      },
+    )

@@ -1,5 +1,5 @@
 -- What the program does with its words.
-use Rattle.std.specs.Prelude.{◌≡◌, ℕ, Bool, List, Option}
+use Rattle.std.specs.Prelude.{ℕ, Bool, List, Option}
 use Rattle.apd_files.specs.Held.{Held}
 use Rattle.apd_words.specs.Asked.{Wanted, Run, Live, Answer}
 use Rattle.apd_run.specs.NewRuns.{RunsScript}

@@ -79,7 +79,8 @@ fn colours_of(shown: bool, color: Option<&str>) -> Option<bool>
 
 /// The form that `--events` and `--color` name, if a terminal shows the output or doesn't; `None` if one is another word.
 fn form_named(shown: bool, asked: LiveRun<'_>) -> Option<Form>
-    ensures is { result ≡ form_named shown (text_of asked.entry.events) (text_of asked.entry.color) }
+    ensures is { result ≡ form_named shown (text_of asked.entry.events)
+        (text_of asked.entry.color) }
 {
     let style = style_of(asked.events)?;
     let colours = colours_of(shown, asked.color)?;

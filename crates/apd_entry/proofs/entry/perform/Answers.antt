@@ -1,4 +1,4 @@
-use Rattle.std.proofs.Common.{absurd, subst}
+use Rattle.std.proofs.Common.{subst}
 use Rattle.apd_words.specs.Asked.{Wanted}
 use Rattle.apd_entry.specs.Captured.{AreWritten, CapturesInPlace}
 use Rattle.apd_entry.specs.Fulfilled.{Fulfils}
@@ -22,7 +22,7 @@ returns-in-Ok-Live g c = record {
       subst P ((rw c.in-Ok-Live.field-0-is at c.in-Ok-Live.ensures.spelled) w spelled) c.run_input.ensures.runs;
   captures = λ w spelled few.
       let P : Wanted → Type 0 = λ v. CapturesInPlace (AreWritten g.O.Write.contents) (g.F.Files.held c.args.files.now) v (g.O.Write.contents c.args.streams.out) (g.O.Write.contents c.run_input.result.0) in
-      subst P ((rw c.in-Ok-Live.field-0-is at c.in-Ok-Live.ensures.spelled) w spelled) ();
+      subst P ((rw c.in-Ok-Live.field-0-is at c.in-Ok-Live.ensures.spelled) w spelled) tt;
 }
 
 pub returns-in-Ok-Answer : goal.returns-in-Ok-Answer
@@ -32,7 +32,7 @@ returns-in-Ok-Answer g c = record {
       subst P ((rw c.in-Ok-Answer.field-0-is at c.in-Ok-Answer.ensures.spelled) w spelled) (rw c.output_of-out-in-Ok-Answer.ensures.is at c.respond-status.ensures.is);
   captures = λ w spelled few.
       let P : Wanted → Type 0 = λ v. CapturesInPlace (AreWritten g.O.Write.contents) (g.F.Files.held c.args.files.now) v (g.O.Write.contents c.args.streams.out) (g.O.Write.contents c.respond-status.new.out) in
-      subst P ((rw c.in-Ok-Answer.field-0-is at c.in-Ok-Answer.ensures.spelled) w spelled) ();
+      subst P ((rw c.in-Ok-Answer.field-0-is at c.in-Ok-Answer.ensures.spelled) w spelled) tt;
 }
 
 pub returns-in-Ok-Test : goal.returns-in-Ok-Test
@@ -42,7 +42,7 @@ returns-in-Ok-Test g c = record {
       subst P ((rw c.in-Ok-Test.field-0-is at c.in-Ok-Test.ensures.spelled) w spelled) (rw c.output_of-out-in-Ok-Test.ensures.is at (rw c.as_slice.ensures.value at c.judge_cases-status.ensures.is));
   captures = λ w spelled few.
       let P : Wanted → Type 0 = λ v. CapturesInPlace (AreWritten g.O.Write.contents) (g.F.Files.held c.args.files.now) v (g.O.Write.contents c.args.streams.out) (g.O.Write.contents c.judge_cases-status.new.out) in
-      subst P ((rw c.in-Ok-Test.field-0-is at c.in-Ok-Test.ensures.spelled) w spelled) ();
+      subst P ((rw c.in-Ok-Test.field-0-is at c.in-Ok-Test.ensures.spelled) w spelled) tt;
 }
 
 pub returns-in-Err : goal.returns-in-Err

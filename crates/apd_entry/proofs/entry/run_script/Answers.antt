@@ -1,4 +1,4 @@
-use Rattle.std.proofs.Common.{List, Option, absurd, inr, refl, ℕ}
+use Rattle.std.proofs.Common.{List, Option, inr, refl, ℕ}
 use Rattle.apd_words.specs.Asked.{text_of}
 use Rattle.apd_program.specs.Verifying.{within}
 use Rattle.apd_run.specs.NewRuns.{NotRead, RunsScript}
