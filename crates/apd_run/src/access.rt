@@ -22,5 +22,5 @@ pub use ap_shards::NewShards;
 pub use naming::Names;
 pub use operator::LiveOperator;
 pub(crate) use running::run_live;
-pub use running::{Opening, Supplies};
+pub use running::{Opening, Session, Supplies};
 pub use worker::LiveWorker;

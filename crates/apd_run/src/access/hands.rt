@@ -18,23 +18,22 @@ use ap_queues::LinePasses;
 use ap_shards::AllPages;
 use std::alloc::{AllocError, Global};
 
-/// What an operator has of an access point: its token, and the parts of the ledgers, the pages of the journals and the
-/// handles of the queues that it keeps.
+/// What an operator has of an access point: its token, and the parts of the ledgers and the pages of the journals that it
+/// keeps, `parts` of each, with the handles of the queues.
 #[derive(Drop)]
 pub(crate) struct Kept<B: Ledgers + Journals> {
     pub token: Box<OperatorToken<B>>,
     pub hoard: Box<Portions<B>>,
     pub pages: Box<AllPages<B>>,
+    pub parts: u64,
     pub passes: LinePasses,
 }
 
-/// The tokens of the workers, and the operator's with all other parts of the ledgers and pages of the journals: `parts` of
-/// each.
+/// The tokens of the workers, and the operator's with all other parts of the ledgers and pages of the journals.
 #[derive(Drop)]
 pub(crate) struct Hands<B: Ledgers + Journals> {
     pub kept: Kept<B>,
     pub workers: Vec<WorkerToken<B>>,
-    pub parts: u64,
 }
 
 /// The tokens of the operator and of the workers.
@@ -104,8 +103,8 @@ pub(crate) fn deal<B: Ledgers + Journals>(
     requires nothing { counted_by left.shards ≡ none }
     requires parts { left.parts ≡ parts_in_all }
     ensures hands { IfOk result (λ h. AreHands ap.new
-        h.kept.token.value h.workers.items h.kept.hoard.value h.parts) }
-    ensures pages { IfOk result (λ h. HasPages h.parts h.kept.pages.value) }
+        h.kept.token.value h.workers.items h.kept.hoard.value h.kept.parts) }
+    ensures pages { IfOk result (λ h. HasPages h.kept.parts h.kept.pages.value) }
     ensures rest { IfOk result (λ h. AreRest ap.new h.kept.passes) }
     ensures many { IfOk result (λ h. vec_len h.workers ≡ count) }
     ensures list { ap.new.list ≡ ap.old.list }
@@ -129,10 +128,7 @@ pub(crate) fn deal<B: Ledgers + Journals>(
         hoard,
         pages,
         passes,
-    };
-    Ok(Hands {
-        kept,
-        workers,
         parts,
-    })
+    };
+    Ok(Hands { kept, workers })
 }

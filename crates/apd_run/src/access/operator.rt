@@ -139,9 +139,9 @@ impl<'a, B: Ledgers + Journals, L: Names, F: Files> LiveOperator<'a, B, L, F> {
         match self.loads.unload(rt, hook) {
             Ok(()) => {
                 self.programs.put(hook, None);
-                return None;
+                None
             }
-            Err(_) => return Some(Told::Memory),
+            Err(_) => Some(Told::Memory),
         }
     }
 
@@ -308,8 +308,8 @@ impl<'a, B: Ledgers + Journals, L: Names, F: Files, G: Drop> Operating<LiveWorke
 
     fn submit<R: Wait>(&mut self, rt: &R, line: u64, event: Event) -> Result<(), Waiting> {
         match self.ap.submit(rt, &mut *self.token, line, event) {
-            Ok(()) => return Ok(()),
-            Err(unserved) => return Err(waiting_for(unserved)),
+            Ok(()) => Ok(()),
+            Err(unserved) => Err(waiting_for(unserved)),
         }
     }
 
@@ -323,26 +323,26 @@ impl<'a, B: Ledgers + Journals, L: Names, F: Files, G: Drop> Operating<LiveWorke
                 }
                 let event = Event::Tick(units);
                 match self.ap.submit_at(rt, &mut *self.token, line, event, shard) {
-                    Ok(()) => return Ok(()),
-                    Err(unserved) => return Err(waiting_for(unserved)),
+                    Ok(()) => Ok(()),
+                    Err(unserved) => Err(waiting_for(unserved)),
                 }
             }
             event => match self.ap.submit(rt, &mut *self.token, line, event) {
-                Ok(()) => return Ok(()),
-                Err(unserved) => return Err(waiting_for(unserved)),
+                Ok(()) => Ok(()),
+                Err(unserved) => Err(waiting_for(unserved)),
             },
         }
     }
 
     fn publish<R: Wait>(&mut self, rt: &R, publication: Publication<'_>) -> Option<Told> {
         match publication {
-            Publication::Load { hook, path } => return Some(self.load(rt, hook, path)),
+            Publication::Load { hook, path } => Some(self.load(rt, hook, path)),
             Publication::Adopt {
                 hook,
                 path,
                 certificate,
-            } => return Some(self.adopt(rt, hook, path, certificate)),
-            Publication::Unload(hook) => return self.unload(rt, hook),
+            } => Some(self.adopt(rt, hook, path, certificate)),
+            Publication::Unload(hook) => self.unload(rt, hook),
         }
     }
 
@@ -350,10 +350,10 @@ impl<'a, B: Ledgers + Journals, L: Names, F: Files, G: Drop> Operating<LiveWorke
         match wanted {
             WordUse::Store { word, value } => {
                 self.store(word, value);
-                return None;
+                None
             }
-            WordUse::Read(word) => return self.read(word),
-            WordUse::Sum(word) => return self.sum(word),
+            WordUse::Read(word) => self.read(word),
+            WordUse::Sum(word) => self.sum(word),
         }
     }
 

@@ -52,8 +52,16 @@ pub struct Opening {
     pub new: NewShards,
 }
 
-/// The tokens of an access point, and the programs in force there.
-struct Equipment<B: Ledgers + Journals> {
+/// The lines that a run does, and the writer of what becomes of them.
+#[derive(Drop)]
+pub struct Session<S: Drop, P: Drop> {
+    pub lines: S,
+    pub writer: P,
+}
+
+/// An access point whose tokens were given out: these tokens, and the programs in force there.
+struct Equipped<'a, B: Ledgers + Journals> {
+    ap: &'a LiveAp<B>,
     hands: Hands<B>,
     loads: Loads,
 }
@@ -103,7 +111,6 @@ where
 fn new_operator<'a, B, L, F>(
     ap: &'a LiveAp<B>,
     kept: Kept<B>,
-    parts: u64,
     workers: u64,
     loads: &'a mut Loads,
     sources: Sources<'a, F>,
@@ -113,14 +120,14 @@ where
     L: Names,
     F: Files,
     requires new { IsNewOperator ap.now kept.token.value }
-    requires kept { HasParts parts kept.hoard.value }
-    requires pages { HasPages parts kept.pages.value }
+    requires kept { HasParts kept.parts kept.hoard.value }
+    requires pages { HasPages kept.parts kept.pages.value }
     requires rest { AreRest ap.now kept.passes }
-    requires enough { 1 < parts }
+    requires enough { 1 < kept.parts }
     requires nothing { sum_of kept.hoard.value ≡ none }
     requires some { 0 < workers }
     requires each { length ap.now.queues ≡ workers }
-    requires all { parts + workers + 1 ≡ parts_in_all }
+    requires all { kept.parts + workers + 1 ≡ parts_in_all }
     requires shares { B.shares ≡ parts_in_all }
     requires named { ap.now ≡ L.ap }
     requires list { loads.old.list ≡ L.ap.list.list }
@@ -133,6 +140,7 @@ where
         token,
         hoard,
         pages,
+        parts,
         passes,
     } = kept;
     LiveOperator {
@@ -155,11 +163,9 @@ where
 fn run_with<B, L, F, G, R, S, P>(
     rt: &R,
     alloc: Global,
-    ap: &LiveAp<B>,
-    equipment: Equipment<B>,
+    equipped: Equipped<'_, B>,
     supplies: Supplies<'_, F, G>,
-    lines: S,
-    writer: P,
+    session: Session<S, P>,
 ) -> (P, u8)
 where
     B: Ledgers + Journals + Send + Sync,
@@ -169,33 +175,33 @@ where
     R: Threads + Wait + Sync,
     S: Lines + Drop,
     P: Console + Drop,
-    requires hands { let hands = equipment.hands in
-        AreHands ap.now hands.kept.token.value hands.workers.items hands.kept.hoard.value hands.parts }
-    requires pages { HasPages equipment.hands.parts equipment.hands.kept.pages.value }
-    requires rest { AreRest ap.now equipment.hands.kept.passes }
+    requires hands { let hands = equipped.hands in
+        AreHands equipped.ap.now
+        hands.kept.token.value hands.workers.items hands.kept.hoard.value hands.kept.parts }
+    requires pages { HasPages equipped.hands.kept.parts equipped.hands.kept.pages.value }
+    requires rest { AreRest equipped.ap.now equipped.hands.kept.passes }
     requires shares { B.shares ≡ parts_in_all }
-    requires some { 0 < length ap.now.queues }
-    requires each { length ap.now.queues ≡ vec_len equipment.hands.workers }
-    requires named { ap.now ≡ L.ap }
-    requires loads { equipment.loads.list ≡ L.ap.list.list }
-    requires no_loads { equipment.loads.loads ≡ [] }
+    requires some { 0 < length equipped.ap.now.queues }
+    requires each { length equipped.ap.now.queues ≡ vec_len equipped.hands.workers }
+    requires named { equipped.ap.now ≡ L.ap }
+    requires loads { equipped.loads.list ≡ L.ap.list.list }
+    requires no_loads { equipped.loads.loads ≡ [] }
     ensures runs { RunsNew (F.held supplies.entry.files.now) supplies.entry.limits
-        (P.manner writer) (S.script lines) (P.contents writer) (P.contents result.0) result.1 }
-    ensures keeps { result.1 < 2 → KeepsWhole (P.manner writer).form (S.script lines)
-        (P.contents writer) (P.contents result.0)
-        (P.recorded writer) (P.recorded result.0) }
+        (P.manner session.writer) (S.script session.lines)
+        (P.contents session.writer) (P.contents result.0) result.1 }
+    ensures keeps { result.1 < 2
+        → KeepsWhole (P.manner session.writer).form (S.script session.lines)
+        (P.contents session.writer) (P.contents result.0)
+        (P.recorded session.writer) (P.recorded result.0) }
 {
     let Supplies {
         files,
         limits,
         gate,
     } = supplies;
-    let Equipment { hands, loads } = equipment;
-    let Hands {
-        kept,
-        workers,
-        parts,
-    } = hands;
+    let Equipped { ap, hands, loads } = equipped;
+    let Hands { kept, workers } = hands;
+    let Session { lines, writer } = session;
     let mut loads = loads;
     let Ok(ready) = ready_workers::<B, L, G>(alloc, ap, gate, workers) else {
         // Dropped by a call, since it has many parts.
@@ -205,7 +211,7 @@ where
     };
     let many = ready.len() as u64;
     let sources = Sources { files, limits };
-    let operator = new_operator::<B, L, F>(ap, kept, parts, many, &mut loads, sources);
+    let operator = new_operator::<B, L, F>(ap, kept, many, &mut loads, sources);
     let staff = Staff {
         operator,
         workers: ready,
@@ -221,8 +227,7 @@ pub(crate) fn run_live<B, F, G, R, S, P>(
     alloc: Global,
     opening: Opening,
     supplies: Supplies<'_, F, G>,
-    lines: S,
-    writer: P,
+    session: Session<S, P>,
 ) -> (P, u8)
 where
     B: Ledgers + Journals + Send + Sync,
@@ -238,10 +243,12 @@ where
     requires config { opening.settings.link ≡ B.config }
     requires shares { B.shares ≡ parts_in_all }
     ensures runs { RunsNew (F.held supplies.entry.files.now) supplies.entry.limits
-        (P.manner writer) (S.script lines) (P.contents writer) (P.contents result.0) result.1 }
-    ensures keeps { result.1 < 2 → KeepsWhole (P.manner writer).form (S.script lines)
-        (P.contents writer) (P.contents result.0)
-        (P.recorded writer) (P.recorded result.0) }
+        (P.manner session.writer) (S.script session.lines)
+        (P.contents session.writer) (P.contents result.0) result.1 }
+    ensures keeps { result.1 < 2
+        → KeepsWhole (P.manner session.writer).form (S.script session.lines)
+        (P.contents session.writer) (P.contents result.0)
+        (P.recorded session.writer) (P.recorded result.0) }
 {
     let Opening {
         settings,
@@ -250,7 +257,7 @@ where
     } = opening;
     let workers = settings.workers as usize;
     let Ok(opened) = LiveAp::<B>::open(rt, alloc, settings, new) else {
-        return without_memory(writer);
+        return without_memory(session.writer);
     };
     let Opened {
         mut ap,
@@ -260,8 +267,12 @@ where
     let loads = Loads::new(alloc, publisher, shapes);
     let Ok(hands) = deal(&mut ap, alloc, left, workers) else {
         loads.close(rt);
-        return without_memory(writer);
+        return without_memory(session.writer);
     };
-    let equipment = Equipment { hands, loads };
-    run_with::<B, Brand, F, G, R, S, P>(rt, alloc, &ap, equipment, supplies, lines, writer)
+    let equipped = Equipped {
+        ap: &ap,
+        hands,
+        loads,
+    };
+    run_with::<B, Brand, F, G, R, S, P>(rt, alloc, equipped, supplies, session)
 }

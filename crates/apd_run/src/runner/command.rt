@@ -7,7 +7,7 @@ ghost use Rattle.apd_driver.specs.Shows.{IsBroken};
 ghost use Rattle.apd_run.specs.Captured.{KeepsCapture, KeepsScript};
 ghost use Rattle.apd_run.specs.NewRuns.{RunsNew, RunsScript};
 
-use crate::access::{NewShards, Opening, Supplies, run_live};
+use crate::access::{NewShards, Opening, Session, Supplies, run_live};
 use crate::progress::Watcher;
 use crate::runner::fault::{
     Origin, RunFault, complain, of_script, say_if_group, say_why, uncaptured, unreadable,
@@ -50,9 +50,11 @@ pub struct Streams<S: Drop, P: Drop> {
     pub shown: bool,
 }
 
-/// The configuration of an access point, the lines that it does, and where they come from.
+/// What a command runs: its arguments, the configuration of its access point, the lines that this does, and where they
+/// come from.
 #[derive(Drop)]
-struct Task<L: Drop> {
+struct Task<'a, L: Drop> {
+    words: RunWords<'a>,
     configuration: Configuration,
     lines: L,
     origin: Origin,
@@ -76,8 +78,7 @@ fn last_line(commands: &[Numbered<'_>]) -> u64 {
 fn run_task<R, F, G, L, P>(
     rt: &R,
     alloc: Global,
-    task: Task<L>,
-    workers: u8,
+    task: Task<'_, L>,
     supplies: Supplies<'_, F, G>,
     writer: P,
 ) -> (P, u8)
@@ -87,16 +88,15 @@ where
     G: Watcher + Copy + Send,
     L: Lines + Drop,
     P: Console + Drop,
-    requires some { 1 ≤ workers }
-    requires few { workers ≤ 8 }
     ensures runs { RunsNew (F.held supplies.entry.files.now) supplies.entry.limits
-        (P.manner writer) (L.script task.lines)
+        (P.manner writer) (L.script task.entry.lines)
         (P.contents writer) (P.contents result.0) result.1 }
-    ensures keeps { result.1 < 2 → KeepsWhole (P.manner writer).form (L.script task.lines)
+    ensures keeps { result.1 < 2 → KeepsWhole (P.manner writer).form (L.script task.entry.lines)
         (P.contents writer) (P.contents result.0)
         (P.recorded writer) (P.recorded result.0) }
 {
     let Task {
+        words,
         configuration,
         lines,
         ..
@@ -104,12 +104,14 @@ where
     let Ok(shapes) = configuration.maps.clone() else {
         return (writer, 3);
     };
+    let workers = words.workers.max(1).min(8);
     let opening = Opening {
         settings: settings(configuration, workers),
         shapes,
         new: NewShards::new(PARTS),
     };
-    run_live::<Brand, F, G, R, L, P>(rt, alloc, opening, supplies, lines, writer)
+    let session = Session { lines, writer };
+    run_live::<Brand, F, G, R, L, P>(rt, alloc, opening, supplies, session)
 }
 
 /// Makes the capture of a run, if it keeps one. Err: it can't be written, which `err` is told, with the exit status.
@@ -135,8 +137,7 @@ fn begun<P: Recording, E: Write>(
 fn run_told<R, F, G, L, P, E>(
     rt: &R,
     alloc: Global,
-    words: RunWords<'_>,
-    task: Task<L>,
+    task: Task<'_, L>,
     supplies: Supplies<'_, F, G>,
     out: P,
     err: &mut E,
@@ -149,20 +150,20 @@ where
     P: Recording + Drop,
     E: Write,
     ensures runs { RunsNew (F.held supplies.entry.files.now) supplies.entry.limits
-        words.entry.manner (L.script task.lines)
+        task.entry.words.manner (L.script task.entry.lines)
         (P.contents out) (P.contents result.0) result.1 }
-    ensures keeps { result.1 < 2 → KeepsWhole words.entry.manner.form (L.script task.lines)
+    ensures keeps { result.1 < 2
+        → KeepsWhole task.entry.words.manner.form (L.script task.entry.lines)
         (P.contents out) (P.contents result.0)
         (P.recorded out) (P.recorded result.0) }
 {
     let RunWords {
         script,
-        workers,
         manner,
         verbose,
         prompts,
         ..
-    } = words;
+    } = task.words;
     let origin = task.origin;
     let Ok(notes) = Notes::new(alloc, script, &task.configuration.maps, verbose) else {
         say_why(3, origin, err);
@@ -177,8 +178,7 @@ where
         is_flushed: false,
         reader_left: false,
     };
-    let workers = workers.max(1).min(8);
-    let (console, status) = run_task(rt, alloc, task, workers, supplies, console);
+    let (console, status) = run_task(rt, alloc, task, supplies, console);
     let reader_left = console.reader_left;
     let out = console.end();
     if !reader_left {
@@ -188,11 +188,11 @@ where
 }
 
 /// Runs the script in a file: the operator follows its lines one after another, each once, or a prefix of them if the run
-/// ends early. Returns `out` and the exit status: 3 if a line says `memory`, or an allocation failed for the run itself; 2 for a fault of a file, the configuration, the script, the capture or a write; otherwise 1 if the run is strict
-/// and a line was refused, which ends the run after that interval; otherwise 0. If the run breaks off, the contract
-/// doesn't say whether the status is 2 or 3. A faulty script is refused before any line runs. Messages on `err` say what
-/// a status of 1, 2 or 3 means, unless a write failed since nobody reads any more, and what a hook keeps after a refused
-/// load.
+/// ends early. Returns `out` and the exit status: 3 if a line says `memory`, or an allocation failed for the run itself; 2
+/// for a fault of a file, the configuration, the script, the capture or a write; otherwise 1 if the run is strict and a
+/// line was refused, which ends the run after that interval; otherwise 0. If the run breaks off, the contract doesn't say
+/// whether the status is 2 or 3. A faulty script is refused before any line runs. Messages on `err` say what a status of
+/// 1, 2 or 3 means, unless a write failed since nobody reads any more, and what a hook keeps after a refused load.
 pub fn run<R, F, G, P, E>(
     rt: &R,
     alloc: Global,
@@ -241,11 +241,12 @@ where
     supplies.gate.start(last_line(commands));
     let lines = Script { commands };
     let task = Task {
+        words,
         configuration,
         lines,
         origin: Origin::Script,
     };
-    run_told(rt, alloc, words, task, supplies, out, err)
+    run_told(rt, alloc, task, supplies, out, err)
 }
 
 /// Runs the lines of an input as they come, and returns `out` and the exit status. Whenever what was read of the input
@@ -296,11 +297,12 @@ where
     }
     let lines = Input::new(alloc, input, shapes);
     let task = Task {
+        words,
         configuration,
         lines,
         origin: Origin::Input,
     };
-    run_told(rt, alloc, words, task, supplies, out, err)
+    run_told(rt, alloc, task, supplies, out, err)
 }
 
 /// The configuration of `apd live`, which takes standard input for its lines: no other file may be that.
