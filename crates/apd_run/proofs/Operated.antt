@@ -189,7 +189,7 @@ module _ {F : Type 0} (held : F → Held) where
       (λ i. record {
         workers = o.workers;
         counted = sum_of o.hoard;
-        work = record { files = held o.files; limits = o.limits; config = o.config; puts = put i; histories = histories_of (shards i); loads = o.loads };
+        work = record { files = held o.files; limits = o.limits; config = o.config; puts = put i; taken = o.taken; histories = histories_of (shards i); loads = o.loads };
       }) ∙ ap (crew_of held) is
 
   -- the same with the same handles
@@ -202,7 +202,7 @@ module _ {F : Type 0} (held : F → Held) where
       let put : puts_of t.lines ≡ puts_of o.token.lines = ap (λ (x : Operator). puts_of x.lines) (same ∙ ap (λ (x : Operator). record x { shards = t.shards }) token) in
       subst (λ (x : RunOperator F). Sees (work_of held x) (work_of held (record o { token = t }))) is
       (record {
-        others = λ i. record { files = held o.files; limits = o.limits; config = o.config; puts = put i; histories = histories_of t.shards; loads = o.loads };
+        others = λ i. record { files = held o.files; limits = o.limits; config = o.config; puts = put i; taken = o.taken; histories = histories_of t.shards; loads = o.loads };
         go_on = kept_seen o.token.shards t.shards (subst (λ (x : Operator). KeepOwn x.shards t.shards) token keeps);
       })
 

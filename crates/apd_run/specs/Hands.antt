@@ -24,9 +24,12 @@ use Rattle.apd_run.specs.Deciding.{Accounts, histories_of}
 use Rattle.apd_run.specs.Work.{Work, live}
 use Rattle.apd_run.specs.declared.access.program_counts.ProgramCounts.{ProgramCounts}
 
--- a worker's access point and token, and what became of its events since the operator last took over its counts
+-- a worker's access point, number and token, how many items it had taken before the operator last took over its counts, and
+-- what became of its events since then
 pub record RunWorker : Type 0 where
   pub ap : Live
+  pub number : ℕ
+  pub given : ℕ
   pub token : Worker
   pub handled : List Tagged
 
@@ -35,12 +38,13 @@ pub record RunWorker : Type 0 where
 pub record IsRunWorker (ap : Live) (w : RunWorker) : Type 0 where
   pub own : IsWorker w.ap w.token
   pub ap_is : w.ap ≡ ap
+  pub number_is : w.number ≡ w.token.number
   pub parts : HasParts 1 (holding_of w.token.shards)
   pub counts : counted_by w.token.shards ≡ tally w.handled
-  pub accounts : Accounts w.token w.handled
+  pub accounts : Accounts w.given w.token w.handled
 
 -- An operator's access point, the configuration of its link, and its token, the parts of the ledgers and the pages that it
--- keeps and how many of each they are, the handles of the queues that are left, what these have counted, how many workers have one, what was published, what the workers that came back have
+-- keeps and how many of each they are, the handles of the queues that are left, how many items of each queue it took over, what these have counted, how many workers have one, what was published, what the workers that came back have
 -- counted of the runs of the programs in force, the files of programs, and what the verifier or a check may do for each
 -- program.
 pub record RunOperator (F : Type 0) : Type 0 where
@@ -51,6 +55,7 @@ pub record RunOperator (F : Type 0) : Type 0 where
   pub pages : EightPages
   pub parts : ℕ
   pub passes : LinePasses
+  pub taken : List ℕ
   pub totals : Totals
   pub workers : ℕ
   pub loads : Beginning
@@ -78,7 +83,7 @@ pub record IsRunOperator {F : Type 0} (shares : ℕ) (ap : Live) (o : RunOperato
 -- what an operator works with, where this is known of its files, and what it has done
 abbrev pub work_of : {F : Type 0} → (F → Held) → RunOperator F → Work
 work_of held o =
-    record { files = held o.files; limits = o.limits; config = o.config; puts = puts_of o.token.lines; histories = histories_of o.token.shards; loads = o.loads }
+    record { files = held o.files; limits = o.limits; config = o.config; puts = puts_of o.token.lines; taken = o.taken; histories = histories_of o.token.shards; loads = o.loads }
 
 -- how many workers have rights, what those that came back have counted, and what the operator has done
 abbrev pub crew_of : {F : Type 0} → (F → Held) → RunOperator F → Crew live

@@ -1,5 +1,5 @@
 -- What an operator works with, and what it has done so far.
-use Rattle.std.specs.Prelude.{◌≡◌, ◌<◌, ℕ, List, Option, Some, None, IfSome}
+use Rattle.std.specs.Prelude.{◌≡◌, ◌+◌, ◌<◌, ℕ, List, Option, Some, None, IfSome, length, slice_index_or, slice_set}
 use Rattle.std.specs.List.{All}
 use mathlib.Core.List.{IsPrefix}
 use Rattle.bpf_regions.specs.declared.hooks.Hook.{Hook}
@@ -28,13 +28,14 @@ use Rattle.apd_run.specs.Loading.{LoadsFile}
 use Rattle.apd_run.specs.Telling.{reports_in}
 
 -- what is known of the files of programs, what the verifier or a check may do for each program, the configuration of the
--- link; what was put into the queue of each worker, in order, what the operator knows of each shard's history, and the loads
--- that were published
+-- link; what was put into the queue of each worker, in order, of how many of these items it was taken over what became of
+-- them, what the operator knows of each shard's history, and the loads that were published
 pub record Work : Type 0 where
   pub files : Held
   pub limits : Limits
   pub config : Config
   pub puts : List (List Item)
+  pub taken : List ℕ
   pub histories : ℕ → List Entry
   pub loads : Beginning
 
@@ -49,6 +50,10 @@ put_at w line e shard = record w { puts = with_item w.puts (item line shard e) }
 -- the same with other histories
 abbrev pub with_histories : Work → (ℕ → List Entry) → Work
 with_histories w histories = record w { histories = histories }
+
+-- the same after what became of this many more items of a worker's queue was taken over
+abbrev pub with_taken : Work → ℕ → ℕ → Work
+with_taken w worker many = record w { taken = slice_set w.taken worker (slice_index_or w.taken worker 0 + many) }
 
 -- the value of a word
 abbrev pub IsWord : Told → Type 0
@@ -80,18 +85,19 @@ pub record Meets (old new : Work) (w : Worker) : Type 0 where
   pub holds : (s : ℕ) → s < 8 → IsHistory s new.config (new.histories s)
   pub among : (s : ℕ) → s < 8 → IsAmong (token_at s w.shards).own (new.histories s)
 
--- What became of a worker's events was taken over, and is what these reports tell. The events are of items that the
--- operator put into that worker's queue one after another, and each concerns its shard. What is told of those that were
+-- What became of a worker's events was taken over, and is what these reports tell. The events are of the next items that the
+-- operator put into that worker's queue, one after another, and each concerns its shard. What is told of those that were
 -- decided at a shard is, in order, what entries of the shard's history say. Each history goes on with what the operator
 -- knew of it before, and is a run of the link from nobody on, under the configuration.
 pub record Takes (old new : Work) (reports : List Report) : Type 0 where
   pub events : List Tagged
   pub told : reports ≡ reports_in events
-  pub queued : AreOfQueue old.puts events
+  pub queued : AreOfQueue old.puts old.taken events
   pub concern : All Concerns events
   pub decided : (s : ℕ) → s < 8 → AreEntries s events (new.histories s)
   pub holds : (s : ℕ) → s < 8 → IsHistory s new.config (new.histories s)
-  pub sees : Sees old new
+  pub go_on : (s : ℕ) → s < 8 → IsPrefix (old.histories s) (new.histories s)
+  pub others : new ≡ with_histories (with_taken old queued.worker (length events)) new.histories
 
 -- what is said of an operator of a live access point
 abbrev pub live : Semantics

@@ -1,6 +1,6 @@
 //! The operator of a run.
 
-ghost use Rattle.std.specs.Prelude.{◌≡◌, ◌<◌, map, IfOk, IfSome, Some};
+ghost use Rattle.std.specs.Prelude.{◌≡◌, ◌+◌, ◌<◌, length, map, slice_index_or, slice_set, IfOk, IfSome, OnErr, OnOk, Some};
 ghost use Rattle.ap_books.specs.Counts.{none};
 ghost use Rattle.ap_books.specs.Reading.{Reads};
 ghost use Rattle.ap_live.specs.Counting.{counted_by, tally};
@@ -54,6 +54,7 @@ pub struct LiveOperator<'a, B: Ledgers + Journals, L: Names, F: Files> {
     pub(crate) pages: Box<AllPages<B>>,
     pub(crate) parts: u64,
     pub(crate) passes: LinePasses,
+    pub(crate) taken: [u64; 8],
     pub(crate) totals: Totals,
     pub(crate) workers: u64,
     pub(crate) loads: &'a mut Loads,
@@ -75,6 +76,7 @@ impl<'a, B: Ledgers + Journals, L: Names, F: Files> Model for LiveOperator<'a, B
       pages = o.pages.value;
       parts = o.parts;
       passes = o.passes;
+      taken = o.taken;
       totals = o.totals;
       workers = o.workers;
       loads = o.loads.now;
@@ -91,6 +93,7 @@ impl<'a, B: Ledgers + Journals, L: Names, F: Files> Model for LiveOperator<'a, B
       pages = o.pages.value;
       parts = o.parts;
       passes = o.passes;
+      taken = o.taken;
       totals = o.totals;
       workers = o.workers;
       loads = o.loads.now;
@@ -219,10 +222,16 @@ impl<'a, B: Ledgers + Journals, L: Names, F: Files> LiveOperator<'a, B, L, F> {
     }
 
     /// Takes over a worker's counts, also those of the runs of its programs, gives it fresh parts of the ledgers, and
-    /// returns what became of its events.
-    fn exchange<G: Drop>(&mut self, worker: &mut LiveWorker<'a, B, L, G>) -> Vec<Tagged>
+    /// returns what became of its events, with which it has given `given`.
+    fn exchange<G: Drop>(
+        &mut self,
+        worker: &mut LiveWorker<'a, B, L, G>,
+        given: u64,
+    ) -> Vec<Tagged>
+        requires given { given ≡ worker.old.given + length worker.old.handled }
         ensures crew { crew_of F.held self.new ≡ gains (crew_of F.held self.old) (tally result.items) }
-        ensures accounts { Accounts worker.old.token result.items }
+        ensures accounts { Accounts worker.old.given worker.old.token result.items }
+        ensures given { length result.items ≡ length worker.old.handled }
         ensures programs { self.new.programs
             ≡ with_counts self.old.programs worker.old.token.held.counts }
         ensures worker { counted_by worker.new.token.shards ≡ none }
@@ -236,6 +245,7 @@ impl<'a, B: Ledgers + Journals, L: Names, F: Files> LiveOperator<'a, B, L, F> {
         let counted = worker.token.renew(fresh);
         self.hoard.merge(counted);
         self.totals = self.totals.and(numbers);
+        worker.given = given;
         handled
     }
 
@@ -283,6 +293,25 @@ impl<'a, B: Ledgers + Journals, L: Names, F: Files> LiveOperator<'a, B, L, F> {
             Err(_) => ap.gather(rt, &mut *hoard),
         }
     }
+}
+
+/// Notes that `many` more items of a worker's queue are taken over, if `given` were before; otherwise an error, which
+/// can't happen. Returns how many they are then.
+fn claim(taken: &mut [u64; 8], number: usize, given: u64, many: u64) -> Result<u64, AllocError>
+    ensures below { OnOk result (number < length taken.old) }
+    ensures agrees { OnOk result (slice_index_or taken.old number 0 ≡ given) }
+    ensures sum { IfOk result (λ all. all ≡ given + many) }
+    ensures noted { OnOk result (taken.new ≡ slice_set taken.old number (given + many)) }
+    ensures refused { OnErr result (taken.new ≡ taken.old) }
+{
+    if number >= taken.len() || taken[number] != given {
+        return Err(AllocError);
+    }
+    let Some(all) = given.checked_add(many) else {
+        return Err(AllocError);
+    };
+    taken[number] = all;
+    Ok(all)
 }
 
 /// The part of an event that is still to be submitted.
@@ -384,7 +413,9 @@ impl<'a, B: Ledgers + Journals, L: Names, F: Files, G: Drop> Operating<
     ) -> Result<(), AllocError> {
         self.meet_at_queue(worker);
         self.meet(worker);
-        let handled = self.exchange(worker);
+        let many = worker.handled.len() as u64;
+        let given = claim(&mut self.taken, worker.number, worker.given, many)?;
+        let handled = self.exchange(worker, given);
         self.tell(worker);
         report_all(reports, handled)?;
         Ok(())
