@@ -147,16 +147,16 @@ fn handle_one<J: Judge>(
     match event {
         Event::Frame(bytes) => {
             let at = shard_of_bytes(bytes.bytes());
-            return handle_at(alloc, shards, at, event, judge);
+            handle_at(alloc, shards, at, event, judge)
         }
-        Event::Tick(units) => return tick_all(alloc, shards, *units),
+        Event::Tick(units) => tick_all(alloc, shards, *units),
         Event::Kick { station, reason: _ } => {
             let at = shard_of_address(*station);
-            return handle_at(alloc, shards, at, event, judge);
+            handle_at(alloc, shards, at, event, judge)
         }
         Event::Close { station, tid: _ } => {
             let at = shard_of_address(*station);
-            return handle_at(alloc, shards, at, event, judge);
+            handle_at(alloc, shards, at, event, judge)
         }
     }
 }

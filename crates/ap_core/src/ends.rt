@@ -33,9 +33,9 @@ pub(crate) fn on_delba(
     match state.agreements.remove(station, tid) {
         Some(entry) => {
             pass_all(entry, &mut outs);
-            return Ok(outs);
+            Ok(outs)
         }
-        None => return Ok(outs),
+        None => Ok(outs),
     }
 }
 
@@ -65,9 +65,9 @@ fn close(
             pass_all(entry, &mut outs);
             let delba = MacFrame::delba(alloc, station, config.bssid(), tid, Reason::END_BA);
             outs.push_reserved(frame.send(&delba));
-            return Ok(outs);
+            Ok(outs)
         }
-        None => return Ok(outs),
+        None => Ok(outs),
     }
 }
 
@@ -87,11 +87,11 @@ pub(crate) fn on_close(
     match state.link.standing(station) {
         Some(_) => {
             let outs = close(alloc, state, config, station, tid)?;
-            return Ok(outs);
+            Ok(outs)
         }
         None => {
             let room = Room::new(alloc)?;
-            return Ok(room.note(UNKNOWN_STATION));
+            Ok(room.note(UNKNOWN_STATION))
         }
     }
 }

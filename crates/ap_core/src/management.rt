@@ -91,8 +91,8 @@ fn names(config: &LinkConfig, asked: &Asked<'_, '_>) -> bool
         (request asked.now)) }
 {
     match asked.came.frame.ssid() {
-        Some(text) => return text == config.ssid(),
-        None => return false,
+        Some(text) => text == config.ssid(),
+        None => false,
     }
 }
 

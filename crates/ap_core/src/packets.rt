@@ -73,16 +73,16 @@ fn deliver<J: Judge>(
                 mark,
                 body: Octets::new(came.frame.into_tail()),
             };
-            return Ok(Outcome {
+            Ok(Outcome {
                 outs: with_out(outs, Out::Up(up)),
                 dropped: false,
-            });
+            })
         }
         DataVerdict::Discard => {
-            return Ok(Outcome {
+            Ok(Outcome {
                 outs,
                 dropped: true,
-            });
+            })
         }
     }
 }
@@ -209,7 +209,7 @@ pub(crate) fn on_qos_data<J: Judge>(
     match state.agreements.get_placed(station, tid) {
         None => {
             let outcome = on_plain_data(alloc, state, came, judge)?;
-            return Ok(outcome);
+            Ok(outcome)
         }
         Some((at, entry)) => {
             let start = entry.start();
@@ -226,10 +226,10 @@ pub(crate) fn on_qos_data<J: Judge>(
             }
             let clock = state.clock;
             state.agreements.leave(at, came.number, clock);
-            return Ok(Outcome {
+            Ok(Outcome {
                 outs: Vec::new(alloc),
                 dropped: false,
-            });
+            })
         }
     }
 }

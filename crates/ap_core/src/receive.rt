@@ -33,10 +33,10 @@ fn unread(alloc: Global, fault: FrameFault) -> Result<Vec<Out>, AllocError>
     ensures { IfOk result (λ outs. IsNoted fault outs.items) }
 {
     match fault {
-        FrameFault::Memory => return Err(AllocError),
+        FrameFault::Memory => Err(AllocError),
         FrameFault::Fault(fault) => {
             let note = noted(alloc, fault.number())?;
-            return Ok(note);
+            Ok(note)
         }
     }
 }
@@ -63,23 +63,23 @@ fn check<J: Judge>(
     match class_check(came.standing, came.class) {
         ClassAnswer::Permitted => {
             let outcome = follow(setting, state, came, judge)?;
-            return Ok(outcome);
+            Ok(outcome)
         }
         ClassAnswer::Deauthenticate(reason) => {
             let room = Room::new(alloc)?;
             let answer = MacFrame::deauthentication(alloc, station, config.bssid(), reason);
-            return Ok(Outcome {
+            Ok(Outcome {
                 outs: room.send(&answer),
                 dropped: false,
-            });
+            })
         }
         ClassAnswer::Disassociate(reason) => {
             let room = Room::new(alloc)?;
             let answer = MacFrame::disassociation(alloc, station, config.bssid(), reason);
-            return Ok(Outcome {
+            Ok(Outcome {
                 outs: room.send(&answer),
                 dropped: false,
-            });
+            })
         }
     }
 }
@@ -142,14 +142,14 @@ pub(crate) fn receive<J: Judge>(
         Ok(frame) => {
             let setting = Setting { alloc, config };
             let outcome = on_frame(setting, state, frame, bytes, judge)?;
-            return Ok(outcome);
+            Ok(outcome)
         }
         Err(fault) => {
             let outs = unread(alloc, fault)?;
-            return Ok(Outcome {
+            Ok(Outcome {
                 outs,
                 dropped: false,
-            });
+            })
         }
     }
 }

@@ -28,7 +28,7 @@ pub(crate) fn on_request(
 {
     let Setting { alloc, config } = setting;
     match state.agreements.get_placed(station, tid) {
-        None => return Ok(Vec::new(alloc)),
+        None => Ok(Vec::new(alloc)),
         Some((at, entry)) => {
             let mut outs = Vec::with_capacity(alloc, entry.held() + 1)?;
             let frame = FrameRoom::new(alloc)?;
@@ -38,7 +38,7 @@ pub(crate) fn on_request(
             pass_up(station, tid, passed, &mut outs);
             let answer = MacFrame::block_ack(alloc, station, config.bssid(), tid, first, bits);
             outs.push_reserved(frame.send(&answer));
-            return Ok(outs);
+            Ok(outs)
         }
     }
 }

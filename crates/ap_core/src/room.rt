@@ -41,7 +41,7 @@ impl FrameRoom {
     {
         let mut bytes = self.bytes;
         match write(frame, &mut bytes) {
-            Ok(()) => return Out::Send(Octets::new(bytes)),
+            Ok(()) => Out::Send(Octets::new(bytes)),
             Err(_) => unreachable!(),
         }
     }

@@ -62,11 +62,11 @@ fn on_class_one(
             status: _,
         } => {
             let outs = on_authentication(setting, state, asker, algorithm, transaction)?;
-            return Ok(outs);
+            Ok(outs)
         }
         Management::Deauthentication { reason: _ } => {
             deauthenticate(state, asker.station);
-            return Ok(Vec::new(setting.alloc));
+            Ok(Vec::new(setting.alloc))
         }
         _ => unreachable!(),
     }
@@ -100,7 +100,7 @@ fn on_class_two<J: Judge>(
                 again: false,
             };
             let outs = on_association(setting, state, &asked, judge)?;
-            return Ok(outs);
+            Ok(outs)
         }
         Management::ReassociationRequest {
             capability,
@@ -114,14 +114,14 @@ fn on_class_two<J: Judge>(
                 again: true,
             };
             let outs = on_association(setting, state, &asked, judge)?;
-            return Ok(outs);
+            Ok(outs)
         }
         Management::Disassociation { reason: _ } => {
             disassociate(state, came.frame.sender());
-            return Ok(Vec::new(setting.alloc));
+            Ok(Vec::new(setting.alloc))
         }
-        Management::AssociationResponse { .. } => return Ok(Vec::new(setting.alloc)),
-        Management::ReassociationResponse { .. } => return Ok(Vec::new(setting.alloc)),
+        Management::AssociationResponse { .. } => Ok(Vec::new(setting.alloc)),
+        Management::ReassociationResponse { .. } => Ok(Vec::new(setting.alloc)),
         _ => unreachable!(),
     }
 }
@@ -156,7 +156,7 @@ fn on_class_three<J: Judge>(
                 start,
             };
             let outs = on_setup(setting, state, &request, judge)?;
-            return Ok(outs);
+            Ok(outs)
         }
         Management::Delba {
             parameters,
@@ -167,9 +167,9 @@ fn on_class_three<J: Judge>(
             }
             let station = came.frame.sender();
             let outs = on_delba(setting.alloc, state, station, parameters.tid)?;
-            return Ok(outs);
+            Ok(outs)
         }
-        Management::AddbaResponse { .. } => return Ok(Vec::new(setting.alloc)),
+        Management::AddbaResponse { .. } => Ok(Vec::new(setting.alloc)),
         _ => unreachable!(),
     }
 }
@@ -197,15 +197,15 @@ fn on_management<J: Judge>(
                 standing: came.standing,
             };
             let outs = on_class_one(setting, state, asker, body)?;
-            return Ok(outs);
+            Ok(outs)
         }
         Class::Two => {
             let outs = on_class_two(setting, state, came, body, judge)?;
-            return Ok(outs);
+            Ok(outs)
         }
         Class::Three => {
             let outs = on_class_three(setting, state, came, body, judge)?;
-            return Ok(outs);
+            Ok(outs)
         }
     }
 }
@@ -227,9 +227,9 @@ fn on_control(
     match body {
         Control::BlockAckReq { tid, start } => {
             let outs = on_request(setting, state, station, tid, start)?;
-            return Ok(outs);
+            Ok(outs)
         }
-        Control::BlockAck { .. } => return Ok(Vec::new(setting.alloc)),
+        Control::BlockAck { .. } => Ok(Vec::new(setting.alloc)),
     }
 }
 
@@ -280,7 +280,7 @@ fn on_data_kind<J: Judge>(
                 standing,
             };
             let outcome = on_plain_data(alloc, state, data, judge)?;
-            return Ok(outcome);
+            Ok(outcome)
         }
         DataKind::QosData { qos } => {
             let data = DataFrame {
@@ -292,19 +292,19 @@ fn on_data_kind<J: Judge>(
                 standing,
             };
             let outcome = on_qos_data(alloc, state, data, qos.tid, judge)?;
-            return Ok(outcome);
+            Ok(outcome)
         }
         DataKind::Null => {
-            return Ok(Outcome {
+            Ok(Outcome {
                 outs: Vec::new(alloc),
                 dropped: false,
-            });
+            })
         }
         DataKind::QosNull { .. } => {
-            return Ok(Outcome {
+            Ok(Outcome {
                 outs: Vec::new(alloc),
                 dropped: false,
-            });
+            })
         }
     }
 }
@@ -329,17 +329,17 @@ pub(crate) fn follow<J: Judge>(
     match came.frame.content() {
         Content::Management { body, .. } => {
             let outs = on_management(setting, state, &came, body, judge)?;
-            return Ok(Outcome {
+            Ok(Outcome {
                 outs,
                 dropped: false,
-            });
+            })
         }
         Content::Control { body } => {
             let outs = on_control(setting, state, came.frame.sender(), body)?;
-            return Ok(Outcome {
+            Ok(Outcome {
                 outs,
                 dropped: false,
-            });
+            })
         }
         Content::Data {
             destination,
@@ -352,7 +352,7 @@ pub(crate) fn follow<J: Judge>(
                 kind,
             };
             let outcome = on_data_kind(setting.alloc, state, came, head, judge)?;
-            return Ok(outcome);
+            Ok(outcome)
         }
     }
 }

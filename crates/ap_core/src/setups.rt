@@ -148,12 +148,12 @@ fn on_immediate<J: Judge>(
         None => {
             let answer = answer(setting, request, Status::REQUEST_DECLINED, 0);
             outs.push_reserved(frame.send(&answer));
-            return Ok(outs);
+            Ok(outs)
         }
         Some(size) => {
             let room = GrantRoom { outs, frame, entry };
             let outs = grant(setting, state, request, size, room);
-            return Ok(outs);
+            Ok(outs)
         }
     }
 }
@@ -184,11 +184,11 @@ pub(crate) fn on_setup<J: Judge>(
     match request.parameters.policy {
         BlockAckPolicy::Immediate => {
             let outs = on_immediate(setting, state, request, judge)?;
-            return Ok(outs);
+            Ok(outs)
         }
         BlockAckPolicy::Delayed => {
             let outs = decline(setting, request)?;
-            return Ok(outs);
+            Ok(outs)
         }
     }
 }

@@ -143,28 +143,28 @@ impl Shard {
             Event::Frame(bytes) => {
                 let bytes = bytes.bytes();
                 let outcome = receive(alloc, &mut self.state, &self.config, bytes, judge)?;
-                return Ok(outcome);
+                Ok(outcome)
             }
             Event::Tick(units) => {
                 let outs = self.on_tick(alloc, *units)?;
-                return Ok(Outcome {
+                Ok(Outcome {
                     outs,
                     dropped: false,
-                });
+                })
             }
             Event::Kick { station, reason } => {
                 let outs = self.on_kick(alloc, *station, *reason)?;
-                return Ok(Outcome {
+                Ok(Outcome {
                     outs,
                     dropped: false,
-                });
+                })
             }
             Event::Close { station, tid } => {
                 let outs = on_close(alloc, &mut self.state, &self.config, *station, *tid)?;
-                return Ok(Outcome {
+                Ok(Outcome {
                     outs,
                     dropped: false,
-                });
+                })
             }
         }
     }
@@ -230,9 +230,9 @@ impl Shard {
                 deauthenticate(&mut self.state, station);
                 let bssid = self.config.bssid();
                 let answer = MacFrame::deauthentication(alloc, station, bssid, reason);
-                return Ok(room.send(&answer));
+                Ok(room.send(&answer))
             }
-            None => return Ok(room.note(UNKNOWN_STATION)),
+            None => Ok(room.note(UNKNOWN_STATION)),
         }
     }
 }

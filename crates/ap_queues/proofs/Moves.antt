@@ -1,15 +1,17 @@
 -- Each move keeps the rule of the queue.
-use Rattle.std.proofs.Common.{◌≡◌, ◌≢◌, ◌==◌, ◌+◌, ◌⊎◌, inl, inr, ℕ, zero, suc, Bool, true, false, true≢false, List, [], ◌∷◌, ◌++◌, length, set, sym, refl, ap, ◌∙◌, subst, ⊎_elim, append_assoc, if◌then◌else◌, arith}
+use Rattle.std.proofs.Common.{◌≡◌, ◌≢◌, ◌==◌, ◌<◌, ◌≤◌, ◌+◌, ◌⊎◌, inl, inr, ℕ, zero, suc, Bool, true, false, true≢false, List, [], ◌∷◌, ◌++◌, length, set, get_or, sym, refl, ap, ◌∙◌, subst, ⊎_elim, append_assoc, if◌then◌else◌, arith}
 use Rattle.std.proofs.lemmas.Bool.Decides.{nat_tests}
 use mathlib.Core.Option.{some, some-ne-none, some-injective}
 use lib.ListN.{get_elem?}
 use Rattle.crossbeam_queue.specs.Fifo.{Pushes, Pops, Forks, Merges, Learns}
-use Rattle.std.proofs.lemmas.List.{append-nil}
+use Rattle.std.proofs.lemmas.List.{append-nil, map-append}
+use mathlib.Core.Logic.{dite}
+use native.Mathlib.Decide.{ℕ_discrete}
 use Rattle.crossbeam_queue.proofs.Lists.{at_set}
 use Rattle.ap_queues.specs.Items.{Item}
 use Rattle.ap_queues.specs.declared.item.Queued.{Queued}
 use Rattle.ap_queues.specs.declared.item.View.{View}
-use Rattle.ap_queues.specs.Queues.{of, nobody, maker, worker, operator, both, founder, Fits, OneQueue, EndsIn}
+use Rattle.ap_queues.specs.Queues.{of, items_of, nobody, maker, worker, operator, both, with_maker, without_maker, founder, Fits, OneQueue, EndsIn, PutAll}
 
 -- a member of a list with one more is in the list, or is that one
 at_last_or : (l : List View) (a b : View) (j : ℕ) → get_elem? (l ++ a ∷ []) j ≡ some b → (get_elem? l j ≡ some b) ⊎ ((j ≡ length l) × (a ≡ b))
@@ -221,6 +223,93 @@ pub learns : (pass : ℕ) (v : View) → v.takes ≡ true → v.puts ≡ true �
 learns pass v a b items views h at =
     let mine = h.8 pass v at in
     (mine.2 b).2 ∙ (ap (of v.operator) (h.6 ∙ ap (λ l. l ++ items) (sym (mine.1 a).1)) ∙ of_append v.operator v.taken items)
+
+-- the handle takes the maker's
+pub gathers : (pass : ℕ) (v : View) (other : ℕ) (w : View) → w.makes ≡ true → Merges OneQueue pass v other w (with_maker v w.made) nobody
+gathers pass v other w b items views h at two at' =
+    let mine = h.8 pass v at in
+    let all : View = with_maker v w.made in
+    let was : get_elem? views other ≡ some w = ⊎_elim (λ x. absurd (two x.0)) (λ x. x.1) (at_set views pass other all w at') in
+    let theirs = (h.8 other w was).0 b in
+    let F : ℕ → View → Type 0 = Fits pass h.1 h.2 h.3 h.4 h.5 in
+    let Now : ℕ → View → Type 0 = λ j u. j ≢ other → F j u in
+    let now : All Now (set views pass all) = all_set Now views pass all (λ _. ((λ _. (refl, theirs.1)), mine.1, mine.2))
+    (λ j u _ e apart. let t = h.8 j u e in ((λ p. absurd (apart ((t.0 p).0 ∙ sym theirs.0))), t.1, t.2)) in
+    (pass, h.1, h.2, h.3, h.4, h.5, h.6, h.7, all_set F (set views pass all) other nobody ((λ p. no p), (λ p. no p), (λ p. no p)) (λ j u apart e. now j u e apart))
+
+-- it returns the maker's
+pub releases : (pass : ℕ) (v : View) → v.makes ≡ true → Forks OneQueue pass v (without_maker v) (maker v.made)
+releases pass v a items views h at =
+    let mine = h.8 pass v at in
+    let root = mine.0 a in
+    let k : ℕ = length (set views pass (without_maker v)) in (
+      k,
+      h.1,
+      h.2,
+      h.3,
+      h.4,
+      h.5,
+      h.6,
+      h.7,
+      fork_all (Fits k h.1 h.2 h.3 h.4 h.5) views pass (without_maker v) (maker v.made) ((λ p. no p), mine.1, mine.2)
+          (λ j u apart e. let t = h.8 j u e in ((λ p. absurd (apart ((t.0 p).0 ∙ sym root.0))), t.1, t.2))
+          ((λ _. (refl, root.1)), (λ p. no p), (λ p. no p)),
+    )
+
+-- each is the first operator's
+abbrev AllFirst : List Queued → Type 0
+AllFirst [] = Unit {0}
+AllFirst (x ∷ xs) = (x.operator ≡ 0) × AllFirst xs
+
+-- an item of the operator is in its list
+not_none : {P : Type 0} (x : Queued) (xs : List Queued) → of x.operator (x ∷ xs) ≡ [] → P
+not_none x xs e =
+    let t : (x.operator == x.operator) ≡ true = grind (arith, nat_tests) in
+    let is : of x.operator (x ∷ xs) ≡ x.item ∷ of x.operator xs = rw t refl in
+    let many : suc (length (of x.operator xs)) ≡ 0 = ap length (sym is ∙ e) in
+    absurd (omega arith)
+
+-- if no other operator put anything, all is the first operator's
+firsts : (xs : List Queued) → ((p : ℕ) → 1 ≤ p → of p xs ≡ []) → AllFirst xs
+firsts [] none = tt
+firsts (x ∷ xs) none =
+    let here : x.operator ≡ 0 = dite (ℕ_discrete x.operator 0) (λ e. e) (λ ne. not_none x xs (none x.operator (omega (arith, ne)))) in
+    let others : (p : ℕ) → 1 ≤ p → of p xs ≡ [] =
+    λ p le.
+    let f : (x.operator == p) ≡ false = grind (arith, nat_tests) in
+    let same : of p (x ∷ xs) ≡ of p xs = rw f refl in
+    sym same ∙ none p le in
+    (here, firsts xs others)
+
+-- then the first operator's items are all items
+all_of : (xs : List Queued) → AllFirst xs → of 0 xs ≡ items_of xs
+all_of [] all = refl
+all_of (x ∷ xs) all =
+    let here : x.operator ≡ 0 = all.0 in
+    let t : (x.operator == 0) ≡ true = grind (arith, nat_tests) in
+    let is : of 0 (x ∷ xs) ≡ x.item ∷ of 0 xs = rw t refl in
+    is ∙ ap (λ l. x.item ∷ l) (all_of xs all.1)
+
+-- and so is each of a prefix
+firsts_at : (xs ys : List Queued) (k : ℕ) (d : Queued) → AllFirst (xs ++ ys) → k < length xs → (get_or xs k d).operator ≡ 0
+firsts_at [] ys k d all low = absurd (omega arith)
+firsts_at (x ∷ xs) ys zero d all low = all.0
+firsts_at (x ∷ xs) ys (suc k) d all low = firsts_at xs ys k d all.1 (omega arith)
+
+-- if one operator was made, it put all: what was taken, and what the queue holds
+pub learns_all : (pass : ℕ) (v : View) → v.takes ≡ true → v.puts ≡ true → v.makes ≡ true → v.made ≡ 1 → Learns OneQueue pass v (PutAll v)
+learns_all pass v a b c one items views h at =
+    let mine = h.8 pass v at in
+    let made : h.2 ≡ 1 = sym (mine.0 c).1 ∙ one in
+    let low = (mine.2 b).1 in
+    let first : v.operator ≡ 0 = omega arith in
+    let none : (p : ℕ) → 1 ≤ p → of p h.4 ≡ [] = λ p le. h.7 p (omega arith) in
+    let put_is : h.4 ≡ v.taken ++ items = h.6 ∙ ap (λ l. l ++ items) (sym (mine.1 a).1) in
+    let all = firsts h.4 none in
+    record {
+      own = λ k d low. firsts_at v.taken items k d (subst (λ l. AllFirst l) put_is all) low ∙ sym first;
+      put = (mine.2 b).2 ∙ (ap (λ n. of n h.4) first ∙ (all_of h.4 all ∙ (ap items_of put_is ∙ map-append (λ (x : Queued). x.item) v.taken items)));
+    }
 
 -- the operator's items in the queue are the last that it put
 pub ends_in : (pass : ℕ) (v : View) → v.puts ≡ true → Learns OneQueue pass v (EndsIn v)

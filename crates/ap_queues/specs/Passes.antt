@@ -1,5 +1,5 @@
 -- What callers see of a queue's handles.
-use Rattle.std.specs.Prelude.{◌≡◌, ℕ, List, [], ◌++◌}
+use Rattle.std.specs.Prelude.{◌≡◌, ℕ, List, [], ◌++◌, All}
 use Rattle.crossbeam_queue.specs.Passes.{view, IsPassOf}
 use Rattle.crossbeam_queue.specs.Fifo.{Held}
 use Rattle.ap_queues.specs.Items.{Item}
@@ -8,7 +8,7 @@ use Rattle.ap_queues.specs.declared.queue.EventQueue.{EventQueue}
 use Rattle.ap_queues.specs.declared.queue.PassMaker.{PassMaker}
 use Rattle.ap_queues.specs.declared.queue.OperatorPass.{OperatorPass}
 use Rattle.ap_queues.specs.declared.queue.WorkerPass.{WorkerPass}
-use Rattle.ap_queues.specs.Queues.{of, EndsIn}
+use Rattle.ap_queues.specs.Queues.{of, items_of, EndsIn}
 
 -- it makes the operators of this queue
 abbrev pub IsMakerOf : EventQueue → PassMaker → Type 0
@@ -46,3 +46,9 @@ WasFull p = Held 256 (EndsIn (view p.pass))
 -- what was taken of this operator is a prefix of what it put
 abbrev pub AreTaken : OperatorPass → WorkerPass → Type 0
 AreTaken p w = (rest : List Item) × (put_by p ≡ of (number_of p) (taken_by w) ++ rest)
+
+-- this operator put all that was taken, which is a prefix of what it put, in order
+pub record AreAllTaken (p : OperatorPass) (w : WorkerPass) : Type 0 where
+  pub own : All (λ x. x.operator ≡ number_of p) (taken_by w)
+  pub rest : List Item
+  pub put : put_by p ≡ items_of (taken_by w) ++ rest

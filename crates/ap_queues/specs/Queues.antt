@@ -1,6 +1,6 @@
 -- The rule of a worker's queue: what was put is what was taken followed by what the queue holds, and each operator
 -- knows what it put.
-use Rattle.std.specs.Prelude.{◌≡◌, ◌==◌, ◌<◌, ◌≤◌, ℕ, true, false, List, [], ◌∷◌, ◌++◌, if◌then◌else◌}
+use Rattle.std.specs.Prelude.{◌≡◌, ◌==◌, ◌<◌, ◌≤◌, ℕ, true, false, List, [], ◌∷◌, ◌++◌, All, map, if◌then◌else◌}
 use mathlib.Core.Option.{some}
 use lib.ListN.{get_elem?}
 use Rattle.ap_queues.specs.Items.{Item}
@@ -11,6 +11,10 @@ use Rattle.ap_queues.specs.declared.item.View.{View}
 abbrev pub of : ℕ → List Queued → List Item
 of p [] = []
 of p (x ∷ xs) = if x.operator == p then x.item ∷ of p xs else of p xs
+
+-- the items of all operators, in order
+abbrev pub items_of : List Queued → List Item
+items_of xs = map (λ x. x.item) xs
 
 -- may do nothing
 abbrev pub nobody : View
@@ -42,6 +46,14 @@ abbrev pub both : List Queued → ℕ → List Item → View
 both taken p put =
     record nobody { takes = true; taken = taken; puts = true; operator = p; put = put }
 
+-- holds the maker's handle too, which has made n operators
+abbrev pub with_maker : View → ℕ → View
+with_maker v n = record v { makes = true; made = n }
+
+-- has returned the maker's handle
+abbrev pub without_maker : View → View
+without_maker v = record v { makes = false; made = 0 }
+
 -- makes operators and takes
 abbrev pub founder : View
 founder = record nobody { makes = true; takes = true }
@@ -67,3 +79,8 @@ OneQueue items views =
 -- this operator's items among these are the last that it put
 abbrev pub EndsIn : View → List Queued → Type 0
 EndsIn v items = (before : List Item) × (v.put ≡ before ++ of v.operator items)
+
+-- this operator alone put all that was taken; what it put is what was taken, and then what the queue holds
+pub record PutAll (v : View) (items : List Queued) : Type 0 where
+  pub own : All (λ x. x.operator ≡ v.operator) v.taken
+  pub put : v.put ≡ items_of v.taken ++ items_of items

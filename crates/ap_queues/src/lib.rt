@@ -3,8 +3,9 @@
 //! Main calls: `EventLines::submit` and `submit_at`, which put an event into the queue of its shard's worker, a tick
 //! once for each shard; `EventLines::queue`, from which its worker takes; `EventQueue::put` and `take`, for one queue.
 //! A queue holds 256 events. What the worker took is a prefix of what was put, in order. Of each operator, a queue
-//! gets exactly the items whose `put` returned `Ok`, in order, once each. If a queue is full (61), the event is
-//! returned; a tick has then reached exactly the shards before.
+//! gets exactly the items whose `put` returned `Ok`, in order, once each. `meet_alone` shows: if there is one operator,
+//! it put all that a worker took. If a queue is full (61), the event is returned; a tick has then reached exactly the
+//! shards before.
 #![tactic(auto)]
 
 mod item;

@@ -4,7 +4,10 @@ ghost use Rattle.std.specs.Prelude.{◌≡◌, ◌+◌, ◌<◌, ◌≤◌, ◌+
 ghost use Rattle.crossbeam_queue.specs.Passes.{view, ruled_capacity};
 
 use crate::item::{Item, Queued, View};
-use crate::rule::{Founding, Hiring, Meeting, OneQueue, Parting, Puts, Sparing, Takes, Whole};
+use crate::rule::{
+    Alone, Founding, Gathering, Hiring, Meeting, OneQueue, Parting, Puts, Releasing, Sparing,
+    Takes, Whole,
+};
 use crossbeam_queue::{Pass, RuledArrayQueue};
 use std::alloc::{AllocError, Global};
 use std::sync::Wait;
@@ -55,7 +58,7 @@ pub struct QueueFull {
 
 impl EventQueue {
     ghost use Rattle.std.specs.Prelude.{◌≡◌, ◌+◌, ◌<◌, ◌≤◌, ◌++◌, ◌∷◌, [], IfOk, IfErr, OnOk, OnErr, IfSome, IfNone, MatchOption};
-    ghost use Rattle.ap_queues.specs.Passes.{IsMakerOf, IsOperatorOf, IsWorkerOf, number_of, put_by, taken_by, WasFull, AreTaken};
+    ghost use Rattle.ap_queues.specs.Passes.{IsMakerOf, IsOperatorOf, IsWorkerOf, number_of, put_by, taken_by, WasFull, AreTaken, AreAllTaken};
 
     /// An empty queue, the maker of its operators, and the handle of its worker.
     pub fn open(alloc: Global) -> Result<(EventQueue, PassMaker, WorkerPass), AllocError>
@@ -153,6 +156,41 @@ impl EventQueue {
         let theirs = mem::replace(pass, spare);
         self.queue.absorb::<Meeting>(mine, theirs);
         self.queue.learn_as::<Whole>(mine);
+        *pass = self.queue.another::<Parting>(mine);
+    }
+
+    /// As `meet`, for the only operator that the queue has: it put all that was taken, which is a prefix
+    /// of what it put, in its order, once each. Does nothing at run time.
+    pub fn meet_alone(
+        &self,
+        worker: &mut WorkerPass,
+        operator: &mut OperatorPass,
+        maker: &mut PassMaker,
+    )
+        requires worker { IsWorkerOf self.now worker.old }
+        requires operator { IsOperatorOf self.now operator.old }
+        requires maker { IsMakerOf self.now maker.old }
+        requires alone { maker.old.made ≡ 1 }
+        ensures worker { IsWorkerOf self.now worker.new }
+        ensures operator { IsOperatorOf self.now operator.new }
+        ensures maker { IsMakerOf self.now maker.new }
+        ensures taken { taken_by worker.new ≡ taken_by worker.old }
+        ensures number { number_of operator.new ≡ number_of operator.old }
+        ensures put { put_by operator.new ≡ put_by operator.old }
+        ensures made { maker.new.made ≡ maker.old.made }
+        ensures order { AreAllTaken operator.old worker.old }
+    {
+        let mine = &mut worker.pass;
+        let spare = self.queue.another::<Sparing>(mine);
+        let spare_maker = self.queue.another::<Sparing>(mine);
+        let OperatorPass { pass, .. } = operator;
+        let theirs = mem::replace(pass, spare);
+        self.queue.absorb::<Meeting>(mine, theirs);
+        let PassMaker { pass: source, .. } = maker;
+        let makers = mem::replace(source, spare_maker);
+        self.queue.absorb::<Gathering>(mine, makers);
+        self.queue.learn_as::<Alone>(mine);
+        *source = self.queue.another::<Releasing>(mine);
         *pass = self.queue.another::<Parting>(mine);
     }
 }

@@ -108,3 +108,35 @@ impl Split<View> for Parting {
 
     ghost right = { λ v. operator v.operator v.put };
 }
+
+/// A worker that holds an operator's handle and the maker's, which has made one operator, knows that
+/// all was put by that operator.
+pub(crate) struct Alone;
+
+impl Lesson<Queued, View> for Alone {
+    ghost use Rattle.ap_queues.specs.Queues.{PutAll};
+
+    ghost fact = { λ v items. PutAll v items };
+}
+
+/// A handle takes the maker's.
+pub(crate) struct Gathering;
+
+impl Join<View> for Gathering {
+    ghost use Rattle.ap_queues.specs.Queues.{nobody, with_maker};
+
+    ghost both = { λ v w. with_maker v w.made };
+
+    ghost spent = { nobody };
+}
+
+/// A handle returns the maker's.
+pub(crate) struct Releasing;
+
+impl Split<View> for Releasing {
+    ghost use Rattle.ap_queues.specs.Queues.{maker, without_maker};
+
+    ghost left = { λ v. without_maker v };
+
+    ghost right = { λ v. maker v.made };
+}

@@ -60,35 +60,27 @@ pub(crate) fn action_of<'a>(alloc: Global, command: &Command<'a>) -> Result<Acti
     match *command {
         Command::Frame(text) => {
             let bytes = text.bytes(alloc)?;
-            return Ok(Action::Submit(Event::Frame(Octets::new(bytes))));
+            Ok(Action::Submit(Event::Frame(Octets::new(bytes))))
         }
-        Command::Tick(units) => return Ok(Action::Submit(Event::Tick(units))),
-        Command::Kick { station, reason } => {
-            return Ok(Action::Submit(Event::Kick { station, reason }));
-        }
-        Command::Close { station, tid } => {
-            return Ok(Action::Submit(Event::Close { station, tid }));
-        }
-        Command::Load { hook, path } => {
-            return Ok(Action::Publish(Publication::Load { hook, path }));
-        }
+        Command::Tick(units) => Ok(Action::Submit(Event::Tick(units))),
+        Command::Kick { station, reason } => { Ok(Action::Submit(Event::Kick { station, reason })) }
+        Command::Close { station, tid } => { Ok(Action::Submit(Event::Close { station, tid })) }
+        Command::Load { hook, path } => { Ok(Action::Publish(Publication::Load { hook, path })) }
         Command::Adopt {
             hook,
             path,
             certificate,
         } => {
-            return Ok(Action::Publish(Publication::Adopt {
+            Ok(Action::Publish(Publication::Adopt {
                 hook,
                 path,
                 certificate,
-            }));
+            }))
         }
-        Command::Unload(hook) => return Ok(Action::Publish(Publication::Unload(hook))),
-        Command::Store { word, value } => {
-            return Ok(Action::UseWord(WordUse::Store { word, value }));
-        }
-        Command::Read(word) => return Ok(Action::UseWord(WordUse::Read(word))),
-        Command::Sum(word) => return Ok(Action::UseWord(WordUse::Sum(word))),
-        Command::Wait => return Ok(Action::Wait),
+        Command::Unload(hook) => Ok(Action::Publish(Publication::Unload(hook))),
+        Command::Store { word, value } => { Ok(Action::UseWord(WordUse::Store { word, value })) }
+        Command::Read(word) => Ok(Action::UseWord(WordUse::Read(word))),
+        Command::Sum(word) => Ok(Action::UseWord(WordUse::Sum(word))),
+        Command::Wait => Ok(Action::Wait),
     }
 }

@@ -46,8 +46,8 @@ fn value_of<W: Serving + Drop, O: Operating<W>>(operator: &mut O, wanted: WordUs
     ensures looks { IsLook (for_use wanted) → LooksOn (O.crew operator.old) (O.crew operator.new) }
 {
     match operator.use_word(wanted) {
-        Some(Told::Word { value }) => return value,
-        _ => return 0,
+        Some(Told::Word { value }) => value,
+        _ => 0,
     }
 }
 
@@ -118,28 +118,28 @@ fn answer_to<W: Serving + Drop, O: Operating<W>, R: Wait>(
     match question {
         Question::Help => {
             let usages = usages(alloc)?;
-            return Ok(Answer::Usages(usages));
+            Ok(Answer::Usages(usages))
         }
         Question::Stations => {
             let rows = operator.stations(rt, alloc)?;
-            return Ok(Answer::Stations(rows));
+            Ok(Answer::Stations(rows))
         }
         Question::Agreements => {
             let rows = operator.agreements(rt, alloc)?;
-            return Ok(Answer::Agreements(rows));
+            Ok(Answer::Agreements(rows))
         }
         Question::Programs => {
             let rows = operator.programs(alloc)?;
-            return Ok(Answer::Programs(rows));
+            Ok(Answer::Programs(rows))
         }
-        Question::Counters => return Ok(Answer::Counters(operator.counted())),
+        Question::Counters => Ok(Answer::Counters(operator.counted())),
         Question::Dump { map, shape } => {
             let entries = dump(alloc, operator, Map { number: map, shape })?;
-            return Ok(Answer::Dump {
+            Ok(Answer::Dump {
                 map,
                 shape,
                 entries,
-            });
+            })
         }
     }
 }
@@ -163,8 +163,6 @@ pub(crate) fn tell<W: Serving + Drop, O: Operating<W>, R: Wait, P: Console>(
         return Ok(());
     };
     let answer = answer_to(setting.rt, setting.alloc, operator, question)?;
-    match print_answer(setting.alloc, writer, line, &answer) {
-        Ok(()) => return Ok(()),
-        Err(fault) => return Err(fault),
-    }
+    print_answer(setting.alloc, writer, line, &answer)?;
+    Ok(())
 }

@@ -34,19 +34,18 @@ fn put<W: Serving + Drop, O: Operating<W>, R: Wait>(
     ensures puts { OnOk result (PutsAll O.semantics line event
         (O.crew operator.old).work (O.crew operator.new).work) }
 {
-    let mut waiting = match operator.submit(rt, line, event) {
-        Ok(()) => return Ok(()),
-        Err(waiting) => waiting,
+    let Err(mut waiting) = operator.submit(rt, line, event) else {
+        return Ok(());
     };
     for _ in rt.forever() {
         if signs.trouble.load(Ordering::SeqCst) != 0 {
             return Err(AllocError);
         }
         thread::yield_now();
-        waiting = match operator.go_on(rt, line, waiting) {
-            Ok(()) => return Ok(()),
-            Err(waiting) => waiting,
+        let Err(still) = operator.go_on(rt, line, waiting) else {
+            return Ok(());
         };
+        waiting = still;
     }
     unreachable!()
 }
@@ -168,20 +167,20 @@ fn follow<W: Serving + Drop, O: Operating<W>, R: Wait>(
     match action_of(setting.alloc, &numbered.command) {
         Ok(Action::Submit(event)) => {
             put(setting.rt, operator, setting.signs, line, event)?;
-            return Ok(false);
+            Ok(false)
         }
         Ok(Action::Publish(publication)) => {
             publish(setting.rt, operator, line, publication, told)?;
-            return Ok(false);
+            Ok(false)
         }
         Ok(Action::UseWord(wanted)) => {
             use_word(operator, line, wanted, told)?;
-            return Ok(false);
+            Ok(false)
         }
-        Ok(Action::Wait) => return Ok(true),
+        Ok(Action::Wait) => Ok(true),
         Err(_) => {
             tell_memory(told, line)?;
-            return Ok(false);
+            Ok(false)
         }
     }
 }

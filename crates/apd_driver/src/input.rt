@@ -17,7 +17,6 @@ use crate::lines::Lines;
 use crate::operating::Operating;
 use crate::setting::{Setting, Staff};
 use crate::source::{Arrival, Source};
-use apd_files::FileFault;
 use apd_script::{Batch, Command, MOST_BYTES, Numbered, begins_with_quit, read_batch};
 use bpf_regions::Shapes;
 use std::alloc::{AllocError, Global};
@@ -71,10 +70,10 @@ fn with_tick<'a>(commands: Vec<Numbered<'a>>, units: u32) -> Result<Vec<Numbered
         line: 0,
         command: Command::Tick(units),
     };
-    match commands.insert(0, tick) {
-        Ok(()) => return Ok(commands),
-        Err(_) => return Err(AllocError),
-    }
+    let Ok(()) = commands.insert(0, tick) else {
+        return Err(AllocError);
+    };
+    Ok(commands)
 }
 
 impl<S: Source + Drop> Input<S> {
@@ -114,11 +113,10 @@ impl<S: Source + Drop> Input<S> {
             if self.has_ended {
                 return Ok(false);
             }
-            let came = match console.flush_all() {
-                Ok(()) => self.fill(alloc, console)?,
-                Err(_) => return Err(PrintFault::Unwritten),
+            let Ok(()) = console.flush_all() else {
+                return Err(PrintFault::Unwritten);
             };
-            if !came {
+            if !self.fill(alloc, console)? {
                 return Ok(true);
             }
         }
@@ -130,11 +128,8 @@ impl<S: Source + Drop> Input<S> {
     fn fill<P: Console>(&mut self, alloc: Global, console: &P) -> Result<bool, PrintFault>
         requires flushed { P.is_flushed console.now ≡ true }
     {
-        let block = match self.source.next(alloc) {
-            Ok(Arrival::Bytes(block)) => block,
-            Ok(Arrival::Nothing) => return Ok(false),
-            Err(FileFault::NoMemory) => return Err(PrintFault::NoMemory),
-            Err(_) => return Err(PrintFault::Unread),
+        let Arrival::Bytes(block) = self.source.next(alloc)? else {
+            return Ok(false);
         };
         let text = continued(alloc, self.kept(), block.as_slice())?;
         self.text = text;
@@ -155,18 +150,14 @@ impl<S: Source + Drop> Input<S> {
             lines,
             rest,
         } = read_batch(alloc, self.rest(), &self.shapes, first)?;
-        match with_tick(commands, units) {
-            Ok(commands) => {
-                return Ok(Batch {
-                    commands,
-                    malformed,
-                    question,
-                    lines,
-                    rest,
-                });
-            }
-            Err(error) => return Err(error),
-        }
+        let commands = with_tick(commands, units)?;
+        Ok(Batch {
+            commands,
+            malformed,
+            question,
+            lines,
+            rest,
+        })
     }
 
     /// Goes on behind a batch; to the end if a line `quit` follows.
@@ -207,14 +198,9 @@ fn do_batch<W: Serving + Drop, O: Operating<W> + Drop, R: Wait, P: Console>(
         commands: batch.commands.as_slice(),
         malformed: batch.malformed.as_slice(),
     };
-    let found = match whole_interval(setting, staff, given, number, writer) {
-        Ok(found) => found,
-        Err(fault) => return Err(fault),
-    };
-    match tell(setting, &mut staff.operator, batch.question, writer) {
-        Ok(()) => return Ok(found),
-        Err(fault) => return Err(fault),
-    }
+    let found = whole_interval(setting, staff, given, number, writer)?;
+    tell(setting, &mut staff.operator, batch.question, writer)?;
+    Ok(found)
 }
 
 /// What the printed lines of a batch say, and how far it went.
@@ -255,10 +241,8 @@ impl<S: Source + Drop> Input<S> {
             left: batch.rest.len(),
             quits: begins_with_quit(batch.rest),
         };
-        match do_batch(setting, staff, batch, number, writer) {
-            Ok(found) => return Ok(Passed { found, step }),
-            Err(fault) => return Err(fault),
-        }
+        let found = do_batch(setting, staff, batch, number, writer)?;
+        Ok(Passed { found, step })
     }
 }
 
@@ -290,15 +274,10 @@ impl<S: Source + Drop> Input<S> {
             if is_over(setting.manner.strict, found.refused) {
                 return Ok(found);
             }
-            match self.advance(setting.alloc, writer) {
-                Ok(true) => {}
-                Ok(false) => return Ok(found),
-                Err(fault) => return Err(fault),
+            if !self.advance(setting.alloc, writer)? {
+                return Ok(found);
             }
-            let passed = match self.do_lines(setting, staff, number, writer) {
-                Ok(passed) => passed,
-                Err(fault) => return Err(fault),
-            };
+            let passed = self.do_lines(setting, staff, number, writer)?;
             self.pass(passed.step);
             found = found.and(passed.found);
             number += 1;

@@ -77,14 +77,10 @@ fn print_interval<P: Console>(
     put_in_order(&mut ordered)?;
     let reports = ordered.as_slice();
     writer.record(commands, reports)?;
-    match print_reports(alloc, writer, manner.form, reports) {
-        Ok(()) => {
-            let memory = any_memory(reports);
-            let refused = any_fault(manner.strict, reports);
-            return Ok(Found { memory, refused });
-        }
-        Err(fault) => return Err(fault),
-    }
+    print_reports(alloc, writer, manner.form, reports)?;
+    let memory = any_memory(reports);
+    let refused = any_fault(manner.strict, reports);
+    Ok(Found { memory, refused })
 }
 
 /// Runs an interval: workers go out, the operator follows the lines from an index on, up to a `wait` or the end,
@@ -147,10 +143,8 @@ fn answer<P: Console>(
 {
     let mut told = Vec::new(alloc);
     tell_malformed(alloc, malformed, &mut told)?;
-    match print_interval(alloc, manner, &[], told, writer) {
-        Ok(found) => return Ok(found),
-        Err(fault) => return Err(fault),
-    }
+    let found = print_interval(alloc, manner, &[], told, writer)?;
+    Ok(found)
 }
 
 /// Does the interval with this number: all commands, and malformed lines.
@@ -183,10 +177,8 @@ pub(crate) fn whole_interval<W: Serving + Drop, O: Operating<W> + Drop, R: Wait,
         line: 0,
         interval: number,
     };
-    match interval(setting, staff, given, from, writer) {
-        Ok(passed) => return Ok(passed.found),
-        Err(fault) => return Err(fault),
-    }
+    let passed = interval(setting, staff, given, from, writer)?;
+    Ok(passed.found)
 }
 
 /// Runs all intervals of a script, or those up to a refused line if the run is strict, and returns what the printed
@@ -227,10 +219,7 @@ pub(crate) fn intervals<W: Serving + Drop, O: Operating<W> + Drop, R: Wait, P: C
             commands: &commands[..end],
             malformed: &[],
         };
-        let passed = match interval(setting, staff, given, from, writer) {
-            Ok(passed) => passed,
-            Err(fault) => return Err(fault),
-        };
+        let passed = interval(setting, staff, given, from, writer)?;
         line = passed.next;
         found = found.and(passed.found);
         interval_number = interval_number.wrapping_add(1);

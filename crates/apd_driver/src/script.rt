@@ -83,8 +83,8 @@ fn finish<W: Serving + Drop, O: Operating<W> + Drop, R: Wait, P: Printing>(
     dismiss_all(&mut operator, workers);
     let totals = operator.gather(rt);
     match print_totals(alloc, writer, &totals) {
-        Ok(()) => return own,
-        Err(fault) => return broken(fault),
+        Ok(()) => own,
+        Err(fault) => broken(fault),
     }
 }
 
@@ -172,8 +172,8 @@ where
         Ok(found) => {
             let own = ended(found);
             let status = finish(rt, alloc, staff, &mut writer, own);
-            return (writer, status);
+            (writer, status)
         }
-        Err(fault) => return (writer, broken(fault)),
+        Err(fault) => (writer, broken(fault)),
     }
 }

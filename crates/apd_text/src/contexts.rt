@@ -159,8 +159,8 @@ pub fn context_for<'a>(
         return given(hook, Some(frame), words);
     }
     match words {
-        None => return Ok(zeros(hook)),
-        Some(_) => return given(hook, None, words),
+        None => Ok(zeros(hook)),
+        Some(_) => given(hook, None, words),
     }
 }
 

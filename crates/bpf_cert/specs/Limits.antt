@@ -1,5 +1,5 @@
 -- Checks within a limit of work.
-use Rattle.std.specs.Prelude.{◌≡◌, ◌≤◌, ◌+◌, ℕ, Bool, false, List, length, Option, Some, Result, Ok, Err}
+use Rattle.std.specs.Prelude.{◌≡◌, ◌≤◌, ◌+◌, ℕ, Bool, true, false, List, length, Option, Some, Result, Ok, Err}
 use Rattle.bpf_prune.specs.Spending.{Tally, HasPassed, CountsAll}
 use Rattle.bpf_cert.specs.declared.claim.Claim.{Claim}
 use Rattle.bpf_cert.specs.declared.fault.CertFault.{CertFault}
@@ -53,9 +53,17 @@ Within passed P (Err within.TooMuchWork) = passed
 abbrev pub CountsOne : Option ℕ → ℕ → ℕ → Type 0
 CountsOne limit old new = (most : ℕ) → limit ≡ Some most → new ≡ old + 1
 
+-- with a limit, exactly n units more are counted
+abbrev pub CountsUnits : Option ℕ → ℕ → ℕ → ℕ → Type 0
+CountsUnits limit n old new = (most : ℕ) → limit ≡ Some most → new ≡ old + n
+
 -- with a limit, at least n comparisons more are counted
 abbrev pub CountsMore : Option ℕ → ℕ → ℕ → ℕ → Type 0
 CountsMore limit n old new = (most : ℕ) → limit ≡ Some most → old + n ≤ new
+
+-- with a limit, a unit for each of a state's n parts is counted before the state is said to be in a claim
+abbrev pub CountsParts : ℕ → Option ℕ → ℕ → ℕ → Bool → Type 0
+CountsParts n limit old new told = told ≡ true → CountsMore limit n old new
 
 -- with a limit, a comparison with each of these claims is counted before a state is said to be in none
 abbrev pub CountsEach : List Claim → Option ℕ → ℕ → ℕ → Bool → Type 0

@@ -104,12 +104,10 @@ fn leaf_stands(alloc: Global, program: &Program, leaf: &Leaf) -> Result<bool, Al
     ensures is { IfOk result (λ told. Tells told (StandsWell program.now leaf.now)) }
 {
     match leaf.kind() {
-        Kind::Read(entry) => {
-            return Ok(stands(program, entry));
-        }
+        Kind::Read(entry) => { Ok(stands(program, entry)) }
         Kind::Spelled(spelled) => {
             let entry = spelled.entry(alloc)?;
-            return Ok(stands(program, &entry));
+            Ok(stands(program, &entry))
         }
     }
 }
@@ -152,7 +150,7 @@ fn add_claim(
             let claim = source.claim(alloc, maps, entry)?;
             claim.state.whole();
             claims.push(claim)?;
-            return Ok(());
+            Ok(())
         }
         Kind::Spelled(spelled) => {
             let entry = spelled.entry(alloc)?;
@@ -164,7 +162,7 @@ fn add_claim(
             }
             let spelled = spelled.clone()?;
             claims.push_unread(spelled, &claim, reading_of(&entry))?;
-            return Ok(());
+            Ok(())
         }
     }
 }
@@ -315,9 +313,9 @@ pub fn check(
 {
     let mut work = Unlimited;
     match admitted(alloc, program, hook, bytes, &mut work) {
-        Ok(accepted) => return Ok(accepted),
+        Ok(accepted) => Ok(accepted),
         Err(fault) => match fault {
-            WithinFault::Refused(fault) => return Err(fault),
+            WithinFault::Refused(fault) => Err(fault),
             WithinFault::TooMuchWork => unreachable!(),
         },
     }
@@ -345,13 +343,13 @@ pub fn check_within(
 {
     match most {
         None => match check(alloc, program, hook, bytes) {
-            Ok(accepted) => return Ok(accepted),
-            Err(fault) => return Err(WithinFault::Refused(fault)),
+            Ok(accepted) => Ok(accepted),
+            Err(fault) => Err(WithinFault::Refused(fault)),
         },
         Some(most) => {
             let mut work = Work::within(most);
             let checked = check_counted(alloc, program, hook, bytes, &mut work);
-            return checked;
+            checked
         }
     }
 }

@@ -1,6 +1,6 @@
 //! A list of claims, and the indexes of those of each slot.
 
-ghost use Rattle.std.specs.Prelude.{◌≡◌, ◌<◌, ◌≤◌, ◌++◌, [], ◌∷◌, IfOk, IfErr, OnOk, OnSome, IsTrue, Some, length, slice_get};
+ghost use Rattle.std.specs.Prelude.{◌≡◌, ◌↔◌, ◌<◌, ◌≤◌, ◌++◌, [], ◌∷◌, IfOk, IfErr, OnOk, OnSome, IsTrue, Some, length, slice_get};
 ghost use Rattle.bpf_cert_format.specs.Unread.{entry_from};
 ghost use Rattle.bpf_cert.specs.Covered.{IsIncluded};
 ghost use Rattle.bpf_cert.specs.Limits.{CountsEach, IsStop};
@@ -126,9 +126,9 @@ impl Claims {
         self.list.len()
     }
 
-    /// True only if there are no claims.
+    /// Whether there are no claims.
     pub fn is_empty(&self) -> bool
-        ensures is { IsTrue result → self.now ≡ [] }
+        ensures is { IsTrue result ↔ (length self.now ≡ 0) }
     {
         self.list.is_empty()
     }

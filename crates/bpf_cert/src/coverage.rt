@@ -85,7 +85,7 @@ fn follow<M: Meter>(
         Ways::Nowhere => Ok(Step::Decided(true)),
         Ways::One(next) => {
             let step = arrive(program, claims, next, left, work)?;
-            return Ok(step);
+            Ok(step)
         }
         Ways::Two(next, target) => {
             let told = claims.include(&target, left, work)?;
@@ -93,7 +93,7 @@ fn follow<M: Meter>(
                 return Ok(Step::Decided(false));
             }
             let step = arrive(program, claims, next, left, work)?;
-            return Ok(step);
+            Ok(step)
         }
     }
 }
@@ -131,9 +131,9 @@ fn advance<M: Meter>(
     match examine_moved(claims.alloc(), program, state) {
         Ok(ways) => {
             let step = follow(program, claims, ways, left, work)?;
-            return Ok(step);
+            Ok(step)
         }
-        Err(fault) => return refused(fault),
+        Err(fault) => refused(fault),
     }
 }
 

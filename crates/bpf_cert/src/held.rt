@@ -3,8 +3,9 @@
 ghost use Rattle.std.specs.Prelude.{◌≡◌, ◌≤◌, IfOk, IfErr, OnOk};
 ghost use Rattle.bpf_absstate.specs.Inclusion.{state_included};
 ghost use Rattle.bpf_cert_format.specs.Unread.{entry_from};
+ghost use Rattle.bpf_prune.specs.Spending.{parts};
 ghost use Rattle.bpf_cert.specs.Covered.{Includes};
-ghost use Rattle.bpf_cert.specs.Limits.{CountsOne, IsStop};
+ghost use Rattle.bpf_cert.specs.Limits.{CountsOne, CountsParts, CountsUnits, IsStop};
 ghost use Rattle.bpf_cert.specs.States.{claim_of};
 ghost use Rattle.bpf_cert.specs.Steps.{Tells, Serves};
 
@@ -92,6 +93,8 @@ fn lies_in<M: Meter>(
     ensures limit { M.limit work.new ≡ M.limit work.old }
     ensures examined { M.examined work.new ≡ M.examined work.old }
     ensures compared { M.compared work.new ≡ M.compared work.old }
+    ensures parts { IfOk result
+        (CountsParts (parts state.now) (M.limit work.old) (M.spent work.old) (M.spent work.new)) }
     ensures stop { IfErr result (IsStop (M.has_passed work.new)) }
 {
     let Places { differed, recent } = places;
@@ -125,6 +128,8 @@ fn includes_soon<M: Meter>(
     ensures limit { M.limit work.new ≡ M.limit work.old }
     ensures examined { M.examined work.new ≡ M.examined work.old }
     ensures compared { M.compared work.new ≡ M.compared work.old }
+    ensures parts { IfOk result
+        (CountsParts (parts state.now) (M.limit work.old) (M.spent work.old) (M.spent work.new)) }
     ensures stop { IfErr result (IsStop (M.has_passed work.new)) }
 {
     if !claim.is_open {
@@ -140,6 +145,8 @@ fn serves<M: Meter>(claim: &Claim, state: &AbsState, left: u32, work: &mut M) ->
     ensures limit { M.limit work.new ≡ M.limit work.old }
     ensures examined { M.examined work.new ≡ M.examined work.old }
     ensures compared { M.compared work.new ≡ M.compared work.old }
+    ensures spent { OnOk result
+        (CountsUnits (M.limit work.old) (parts state.now) (M.spent work.old) (M.spent work.new)) }
     ensures stop { IfErr result (IsStop (M.has_passed work.new)) }
 {
     work.spends(parts_of(state))?;
@@ -178,15 +185,15 @@ impl Held {
         match &self.form {
             Form::Spelled(spelled) => {
                 let claim = spelled.claim()?;
-                return Ok(claim);
+                Ok(claim)
             }
             Form::Built(claim) => {
                 let state = claim.state.clone()?;
-                return Ok(Claim {
+                Ok(Claim {
                     state,
                     budget: claim.budget,
                     is_open: claim.is_open,
-                });
+                })
             }
         }
     }
@@ -206,6 +213,8 @@ impl Held {
         ensures counted { OnOk result
             (CountsOne (M.limit work.old) (M.compared work.old) (M.compared work.new)) }
         ensures least { M.compared work.old ≤ M.compared work.new }
+        ensures parts { IfOk result
+            (CountsParts (parts state.now) (M.limit work.old) (M.spent work.old) (M.spent work.new)) }
         ensures stop { IfErr result (IsStop (M.has_passed work.new)) }
     {
         work.compares()?;
@@ -214,7 +223,7 @@ impl Held {
                 spend_all(work, spelled.units)?;
                 let claim = spelled.claim()?;
                 let told = serves(&claim, state, left, work)?;
-                return Ok(told);
+                Ok(told)
             }
             Form::Built(claim) => {
                 if claim.budget > left {
@@ -225,7 +234,7 @@ impl Held {
                     recent,
                 };
                 let told = includes_soon(claim, state, places, work)?;
-                return Ok(told);
+                Ok(told)
             }
         }
     }

@@ -1,8 +1,8 @@
 //! The work of a check, counted or not, and why a check ends without a verdict.
 
 ghost use Rattle.std.specs.Prelude.{◌≡◌, ◌≤◌, ℕ, Option, Some, None, IfErr, OnOk};
-ghost use Rattle.bpf_prune.specs.Spending.{HasPassed};
-ghost use Rattle.bpf_cert.specs.Limits.{CountsOne, IsStop, number_within, stopped};
+ghost use Rattle.bpf_prune.specs.Spending.{HasPassed, parts};
+ghost use Rattle.bpf_cert.specs.Limits.{CountsOne, CountsUnits, IsStop, number_within, stopped};
 ghost use Rattle.bpf_cert.specs.declared.limit.Stop.TheVariants as stop;
 ghost use Rattle.bpf_cert.specs.declared.limit.WithinFault.TheVariants.{Refused};
 ghost use Rattle.bpf_cert.specs.declared.fault.CertFault.TheVariants as fault;
@@ -91,10 +91,15 @@ pub trait Meter {
     /// How many comparisons it has counted.
     ghost compared: { Self → ℕ };
 
+    /// How many units it has counted.
+    ghost spent: { Self → ℕ };
+
     /// Counts a state that is examined, if there is a limit.
     fn examines(&mut self, state: &AbsState) -> Result<(), Stop>
         ensures limit { limit self.new ≡ limit self.old }
         ensures counted { OnOk result (CountsOne (limit self.old) (examined self.old) (examined self.new)) }
+        ensures spent { OnOk result
+            (CountsUnits (limit self.old) (parts state.now) (spent self.old) (spent self.new)) }
         ensures least { examined self.old ≤ examined self.new }
         ensures compared { compared self.new ≡ compared self.old }
         ensures stop { IfErr result (IsStop (has_passed self.new)) };
@@ -104,6 +109,7 @@ pub trait Meter {
         ensures limit { limit self.new ≡ limit self.old }
         ensures examined { examined self.new ≡ examined self.old }
         ensures counted { OnOk result (CountsOne (limit self.old) (compared self.old) (compared self.new)) }
+        ensures spent { OnOk result (CountsUnits (limit self.old) 1 (spent self.old) (spent self.new)) }
         ensures least { compared self.old ≤ compared self.new }
         ensures stop { IfErr result (IsStop (has_passed self.new)) };
 
@@ -113,6 +119,7 @@ pub trait Meter {
         ensures limit { limit self.new ≡ limit self.old }
         ensures examined { examined self.new ≡ examined self.old }
         ensures compared { compared self.new ≡ compared self.old }
+        ensures spent { OnOk result (CountsUnits (limit self.old) units (spent self.old) (spent self.new)) }
         ensures stop { IfErr result (IsStop (has_passed self.new)) };
 }
 
@@ -128,6 +135,8 @@ impl Meter for Unlimited {
     ghost examined = { λ _. 0 };
 
     ghost compared = { λ _. 0 };
+
+    ghost spent = { λ _. 0 };
 
     fn examines(&mut self, state: &AbsState) -> Result<(), Stop> {
         let _state = state;
@@ -152,6 +161,8 @@ impl Meter for Work {
     ghost examined = { λ w. w.examined };
 
     ghost compared = { λ w. w.compared };
+
+    ghost spent = { λ w. w.units };
 
     fn examines(&mut self, state: &AbsState) -> Result<(), Stop> {
         match self.examine(state) {
@@ -183,6 +194,8 @@ pub(crate) fn spend_all<M: Meter>(work: &mut M, units: u64) -> Result<(), Stop>
     ensures limit { M.limit work.new ≡ M.limit work.old }
     ensures examined { M.examined work.new ≡ M.examined work.old }
     ensures compared { M.compared work.new ≡ M.compared work.old }
+    ensures spent { OnOk result
+        (CountsUnits (M.limit work.old) units (M.spent work.old) (M.spent work.new)) }
     ensures stop { IfErr result (IsStop (M.has_passed work.new)) }
 {
     let mut left = units;

@@ -31,7 +31,7 @@ pub fn step<P: Port>(
 {
     let _short = program.len();
     let slot = program.insn_at(machine.pc);
-    return perform_slot(program.shapes(), frame, context, slot, machine, port);
+    perform_slot(program.shapes(), frame, context, slot, machine, port)
 }
 
 /// Keeps the note, if any, if it is among the first 16.

@@ -72,7 +72,7 @@ pub fn perform_call(machine: &mut Machine, to: Option<usize>) -> Stepped
     });
     set_callee(&mut machine.regs, depth);
     machine.pc = to;
-    return Stepped::On(None);
+    Stepped::On(None)
 }
 
 fn exit_value(value: Value) -> Result<u64, u8>
@@ -100,5 +100,5 @@ pub fn perform_exit(machine: &mut Machine) -> Stepped
     let _frame = machine.stack.pop();
     set_caller(&mut machine.regs, caller);
     machine.pc = caller.slot;
-    return Stepped::On(None);
+    Stepped::On(None)
 }

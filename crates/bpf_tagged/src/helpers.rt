@@ -59,7 +59,7 @@ fn perform_lookup(shapes: &Shapes, machine: &mut Machine) -> Stepped
         return Stepped::Faulted(wrong_kinds(a, b));
     };
     answer_with(machine, entry_found(map, index, shapes.get(map)));
-    return Stepped::On(None);
+    Stepped::On(None)
 }
 
 fn perform_note(machine: &mut Machine) -> Stepped
@@ -69,9 +69,9 @@ fn perform_note(machine: &mut Machine) -> Stepped
     match number_in(machine.regs[1]) {
         Ok(noted) => {
             answer_with(machine, Value::Number(0));
-            return Stepped::On(Some(noted));
+            Stepped::On(Some(noted))
         }
-        Err(cause) => return Stepped::Faulted(cause),
+        Err(cause) => Stepped::Faulted(cause),
     }
 }
 
@@ -85,7 +85,7 @@ fn perform_ask<P: Port>(machine: &mut Machine, port: &mut P, helper: Helper) -> 
 {
     let answer = port.helper(helper);
     answer_with(machine, Value::Number(answer));
-    return Stepped::On(None);
+    Stepped::On(None)
 }
 
 /// Calls a helper by its number.
@@ -118,5 +118,5 @@ pub fn perform_help<P: Port>(
     if helper == 5 {
         return perform_note(machine);
     }
-    return Stepped::Faulted(causes::NO_HELPER);
+    Stepped::Faulted(causes::NO_HELPER)
 }

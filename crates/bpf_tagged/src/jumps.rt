@@ -56,9 +56,9 @@ fn perform_jump(machine: &mut Machine, to: Option<usize>) -> Stepped
     match to {
         Some(to) => {
             machine.pc = to;
-            return Stepped::On(None);
+            Stepped::On(None)
         }
-        None => return Stepped::Faulted(causes::ASTRAY),
+        None => Stepped::Faulted(causes::ASTRAY),
     }
 }
 
@@ -68,7 +68,7 @@ pub fn perform_goto(machine: &mut Machine, offset: i16) -> Stepped
     ensures { (p : Setting) → Moves (next_of p (Jump offset)) result machine.old machine.new }
 {
     let to = jump_target(machine.pc, i32::from(offset));
-    return perform_jump(machine, to);
+    perform_jump(machine, to)
 }
 
 /// Jumps by a 32-bit offset.
@@ -77,7 +77,7 @@ pub fn perform_goto_long(machine: &mut Machine, offset: i32) -> Stepped
     ensures { (p : Setting) → Moves (next_of p (JumpLong offset)) result machine.old machine.new }
 {
     let to = jump_target(machine.pc, offset);
-    return perform_jump(machine, to);
+    perform_jump(machine, to)
 }
 
 /// Calls the local function at an offset.
@@ -87,7 +87,7 @@ pub fn perform_call_local(machine: &mut Machine, offset: i32) -> Stepped
     ensures { (p : Setting) → Moves (next_of p (CallLocal offset)) result machine.old machine.new }
 {
     let to = jump_target(machine.pc, offset);
-    return perform_call(machine, to);
+    perform_call(machine, to)
 }
 
 /// A comparison of a register with a source, on 64 bits if `wide`, else on 32.
@@ -120,8 +120,8 @@ pub fn perform_branch(
                 return perform_jump(machine, to);
             }
             machine.pc += 1;
-            return Stepped::On(None);
+            Stepped::On(None)
         }
-        Err(cause) => return Stepped::Faulted(cause),
+        Err(cause) => Stepped::Faulted(cause),
     }
 }

@@ -52,7 +52,7 @@ fn load_placed<P: Port>(
                 read_number(input.frame, at, load.size),
             );
             put(machine, load.dst, Value::Number(number));
-            return Stepped::On(None);
+            Stepped::On(None)
         }
         Place::Context(at) => {
             let number = loaded(
@@ -61,22 +61,22 @@ fn load_placed<P: Port>(
                 read_number(input.context, at, load.size),
             );
             put(machine, load.dst, Value::Number(number));
-            return Stepped::On(None);
+            Stepped::On(None)
         }
         Place::Stack { frame: k, at } => {
-            return match load_in(machine.stack.as_slice(), k, at, load.size, load.signed) {
+            match load_in(machine.stack.as_slice(), k, at, load.size, load.signed) {
                 Ok(value) => {
                     put(machine, load.dst, value);
                     Stepped::On(None)
                 }
                 Err(cause) => Stepped::Faulted(cause),
-            };
+            }
         }
         Place::Word { map, word } => {
             let answer = port.access(map, word, MapOp::Load);
             let number = loaded(load.signed, load.size, answer);
             put(machine, load.dst, Value::Number(number));
-            return Stepped::On(None);
+            Stepped::On(None)
         }
     }
 }
@@ -138,9 +138,7 @@ pub fn perform_load<P: Port>(
         at,
         load.size,
     ) {
-        Ok(place) => {
-            return load_placed(input, machine, port, load, place);
-        }
-        Err(other) => return Stepped::Faulted(other),
+        Ok(place) => { load_placed(input, machine, port, load, place) }
+        Err(other) => Stepped::Faulted(other),
     }
 }

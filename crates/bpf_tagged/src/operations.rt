@@ -41,9 +41,9 @@ pub fn perform_alu(
     match arithmetic(op, wide, a, b) {
         Ok(value) => {
             put(machine, dst, value);
-            return Stepped::On(None);
+            Stepped::On(None)
         }
-        Err(cause) => return Stepped::Faulted(cause),
+        Err(cause) => Stepped::Faulted(cause),
     }
 }
 
@@ -62,9 +62,9 @@ pub fn perform_extension(
     match number_in(read(machine, src)) {
         Ok(x) => {
             put(machine, dst, Value::Number(extend(from, wide, x)));
-            return Stepped::On(None);
+            Stepped::On(None)
         }
-        Err(cause) => return Stepped::Faulted(cause),
+        Err(cause) => Stepped::Faulted(cause),
     }
 }
 
@@ -76,9 +76,9 @@ pub fn perform_negation(machine: &mut Machine, wide: bool, dst: Reg) -> Stepped
     match number_in(read(machine, dst)) {
         Ok(x) => {
             put(machine, dst, Value::Number(negate(wide, x)));
-            return Stepped::On(None);
+            Stepped::On(None)
         }
-        Err(cause) => return Stepped::Faulted(cause),
+        Err(cause) => Stepped::Faulted(cause),
     }
 }
 
@@ -96,9 +96,9 @@ pub fn perform_order(
     match number_in(read(machine, dst)) {
         Ok(x) => {
             put(machine, dst, Value::Number(in_order(order, width, x)));
-            return Stepped::On(None);
+            Stepped::On(None)
         }
-        Err(cause) => return Stepped::Faulted(cause),
+        Err(cause) => Stepped::Faulted(cause),
     }
 }
 
@@ -110,5 +110,5 @@ pub fn perform_wide_load(machine: &mut Machine, dst: Reg, value: Wide) -> Steppe
 {
     machine.regs[dst.number() as usize] = wide_load(value);
     machine.pc += 2;
-    return Stepped::On(None);
+    Stepped::On(None)
 }

@@ -57,29 +57,17 @@ pub fn perform<P: Port>(
             wide,
             dst,
             source,
-        } => {
-            return perform_alu(machine, op, wide, dst, source);
-        }
+        } => { perform_alu(machine, op, wide, dst, source) }
         Insn::MovSx {
             from,
             wide,
             dst,
             src,
-        } => {
-            return perform_extension(machine, from, wide, dst, src);
-        }
-        Insn::Neg { wide, dst } => {
-            return perform_negation(machine, wide, dst);
-        }
-        Insn::End { order, width, dst } => {
-            return perform_order(machine, order, width, dst);
-        }
-        Insn::Jump { offset } => {
-            return perform_goto(machine, offset);
-        }
-        Insn::JumpLong { offset } => {
-            return perform_goto_long(machine, offset);
-        }
+        } => { perform_extension(machine, from, wide, dst, src) }
+        Insn::Neg { wide, dst } => { perform_negation(machine, wide, dst) }
+        Insn::End { order, width, dst } => { perform_order(machine, order, width, dst) }
+        Insn::Jump { offset } => { perform_goto(machine, offset) }
+        Insn::JumpLong { offset } => { perform_goto_long(machine, offset) }
         Insn::Branch {
             compare,
             wide,
@@ -93,17 +81,11 @@ pub fn perform<P: Port>(
                 dst,
                 source,
             };
-            return perform_branch(machine, input.frame.len(), test, offset);
+            perform_branch(machine, input.frame.len(), test, offset)
         }
-        Insn::Call { helper } => {
-            return perform_help(input.shapes, machine, port, word_of_int(helper));
-        }
-        Insn::CallLocal { offset } => {
-            return perform_call_local(machine, offset);
-        }
-        Insn::Exit => {
-            return perform_exit(machine);
-        }
+        Insn::Call { helper } => { perform_help(input.shapes, machine, port, word_of_int(helper)) }
+        Insn::CallLocal { offset } => { perform_call_local(machine, offset) }
+        Insn::Exit => { perform_exit(machine) }
         Insn::Load {
             size,
             signed,
@@ -118,7 +100,7 @@ pub fn perform<P: Port>(
                 dst,
                 from,
             };
-            return perform_load(input, machine, port, load, offset);
+            perform_load(input, machine, port, load, offset)
         }
         Insn::Store {
             size,
@@ -133,7 +115,7 @@ pub fn perform<P: Port>(
                 value,
                 to,
             };
-            return perform_store(input, machine, port, store, offset);
+            perform_store(input, machine, port, store, offset)
         }
         Insn::Atomic {
             op,
@@ -153,11 +135,9 @@ pub fn perform<P: Port>(
                 value,
                 compared,
             };
-            return perform_atomic(input, machine, port, atomic, offset);
+            perform_atomic(input, machine, port, atomic, offset)
         }
-        Insn::LoadWide { dst, value } => {
-            return perform_wide_load(machine, dst, value);
-        }
+        Insn::LoadWide { dst, value } => { perform_wide_load(machine, dst, value) }
     }
 }
 
@@ -186,9 +166,9 @@ pub fn perform_slot<P: Port>(
     };
     match slot {
         Some(held) => match held {
-            Some(insn) => return perform(input, insn, machine, port),
-            None => return Stepped::Faulted(causes::ASTRAY),
+            Some(insn) => perform(input, insn, machine, port),
+            None => Stepped::Faulted(causes::ASTRAY),
         },
-        None => return Stepped::Faulted(causes::PAST_THE_END),
+        None => Stepped::Faulted(causes::PAST_THE_END),
     }
 }

@@ -43,20 +43,20 @@ fn store_placed<P: Port>(
     ensures paired { IsPaired machine.old → IsPaired machine.new }
 {
     match place {
-        Place::Frame(_) => return Stepped::Faulted(causes::WRONG_OPERAND),
-        Place::Context(_) => return Stepped::Faulted(causes::WRONG_OPERAND),
+        Place::Frame(_) => Stepped::Faulted(causes::WRONG_OPERAND),
+        Place::Context(_) => Stepped::Faulted(causes::WRONG_OPERAND),
         Place::Stack { frame, at } => {
             if points_elsewhere(frame, value) {
                 return Stepped::Faulted(causes::STACK_POINTER_STORED);
             }
             store_in(machine.stack.as_mut_slice(), frame, at, size, value);
             machine.pc += 1;
-            return Stepped::On(None);
+            Stepped::On(None)
         }
         Place::Word { map, word } => {
             let _nothing = port.access(map, word, MapOp::Store(number_of(value)));
             machine.pc += 1;
-            return Stepped::On(None);
+            Stepped::On(None)
         }
     }
 }
@@ -128,9 +128,7 @@ pub fn perform_store<P: Port>(
         at,
         store.size,
     ) {
-        Ok(place) => {
-            return store_placed(machine, port, store.size, taken, place);
-        }
-        Err(other) => return Stepped::Faulted(other),
+        Ok(place) => { store_placed(machine, port, store.size, taken, place) }
+        Err(other) => Stepped::Faulted(other),
     }
 }

@@ -215,14 +215,12 @@ fn parted(ways: Ways, forks: bool) -> (Option<AbsState>, AbsState)
 {
     match ways {
         Ways::Nowhere => unreachable!(),
-        Ways::One(next) => {
-            return (None, next);
-        }
+        Ways::One(next) => (None, next),
         Ways::Two(first, second) => {
             if forks {
                 return (Some(second), first);
             }
-            return (None, second);
+            (None, second)
         }
     }
 }

@@ -1,7 +1,7 @@
 mod Counted
 mod Named
 mod Options
-mod Passing
+mod Stepping
 mod Present
 mod Records
 mod Unique

@@ -1,5 +1,5 @@
 -- A file with sections holds the packets of one list alone.
-use Rattle.std.proofs.Common.{◌≡◌, ◌<◌, ◌⊎◌, ◌∙◌, ℕ, List, [], length, Result, Ok, Err, inl, inr, refl, sym, ap, subst, arith}
+use Rattle.std.proofs.Common.{◌≡◌, ◌<◌, ◌⊎◌, ◌∙◌, ℕ, List, [], length, Result, Ok, inl, inr, refl, sym, ap, subst, arith}
 use Rattle.capture.specs.declared.fault.CaptureFault.{CaptureFault}
 use Rattle.capture.specs.Blocks.{Framed, block_at}
 use Rattle.capture.specs.Packets.{Seen}

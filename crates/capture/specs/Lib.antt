@@ -6,4 +6,8 @@ pub mod Blocks
 pub mod Interfaces
 pub mod Sections
 pub mod Captures
+pub mod Walks
+pub mod Counting
+pub mod Walking
+pub mod Ways
 pub mod Writing

@@ -1,16 +1,15 @@
 -- The packets of a pcapng file (draft-ietf-opsawg-pcapng, 4.1 to 4.4): sections, each with interfaces and the packets
 -- that these captured. Blocks of other types are skipped.
-use Rattle.std.specs.Prelude.{◌≡◌, ◌<◌, ℕ, ◌+◌, ◌-◌, ◌*◌, ◌/◌, ◌^◌, ◌==◌, ◌&&◌, ◌||◌, Bool, nat_lt, min, List, [], ◌∷◌, ◌++◌, length, take, drop, map, slice_get, Option, Some, None, Result, Ok, Err, if◌then◌else◌}
+use Rattle.std.specs.Prelude.{◌≡◌, ◌<◌, ℕ, ◌+◌, ◌-◌, ◌*◌, ◌/◌, ◌^◌, ◌==◌, ◌&&◌, ◌||◌, Bool, nat_lt, min, List, [], ◌∷◌, ◌++◌, length, take, drop, slice_get, Option, Some, None, Result, Ok, Err, if◌then◌else◌}
 use Rattle.capture.specs.declared.fault.CaptureFault.{CaptureFault}
 use Rattle.capture.specs.declared.fault.CaptureFault.TheVariants.{Version, BadBlock}
 use Rattle.capture.specs.declared.fields.Endian.{Endian}
 use Rattle.capture.specs.declared.fields.Endian.TheVariants.{Little}
 use Rattle.capture.specs.declared.packet.Packet.{Packet}
-use Rattle.capture.specs.declared.section.Reading.{Reading}
 use Rattle.capture.specs.Fields.{number_at}
 use Rattle.capture.specs.Packets.{Seen, seen_of, frame_of}
 use Rattle.capture.specs.Blocks.{Framed, section, block_at}
-use Rattle.capture.specs.Interfaces.{Described, described_of, interface_of}
+use Rattle.capture.specs.Interfaces.{Described, interface_of}
 
 -- a packet, for a result
 abbrev pub seen_in : Result Packet CaptureFault → Result Seen CaptureFault
@@ -74,14 +73,6 @@ pub record State : Type 0 where
   pub endian : Endian
   pub interfaces : List Described
   pub packets : List Seen
-
--- the same as contracts see it
-abbrev pub state_of : Reading → State
-state_of r = record {
-  endian = r.endian;
-  interfaces = map described_of r.interfaces.items;
-  packets = map seen_of r.packets.items;
-}
 
 -- version 1.0, or 1.2, which is read as 1.0 (4.1)
 abbrev pub is_section_version : ℕ → ℕ → Bool

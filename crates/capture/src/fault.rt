@@ -45,6 +45,14 @@ impl<T: Drop> From<AllocFailed<T>> for CaptureFault {
     }
 }
 
+impl From<AllocError> for CaptureFault {
+    ghost from_gives = { λ _ fault. fault ≡ NoMemory };
+
+    fn from(_error: AllocError) -> CaptureFault {
+        CaptureFault::NoMemory
+    }
+}
+
 /// Why a packet is left out.
 #[derive(Clone, Copy, Debug, PartialEq, Eq, Error)]
 pub enum LeftOut {

@@ -1,13 +1,13 @@
-//! The packets of a capture file.
+//! The packets of a capture file, as a list.
 
-ghost use Rattle.std.specs.Prelude.{◌≡◌, ◌⊎◌, map, IfOk, IfErr};
-ghost use Rattle.capture.specs.Packets.{seen_of, HoldsRecords, RefusesRecord};
-ghost use Rattle.capture.specs.Captures.{has_sections, Holds, Refuses};
+ghost use Rattle.std.specs.Prelude.{◌≡◌, map, IfOk, IfErr};
+ghost use Rattle.capture.specs.Packets.{seen_of};
+ghost use Rattle.capture.specs.Captures.{Holds, Refuses};
+ghost use Rattle.capture.specs.Walks.{packets_in};
 
 use crate::fault::CaptureFault;
-use crate::form::read_form;
-use crate::packet::{Packet, first_packet};
-use crate::section::read_sections;
+use crate::packet::Packet;
+use crate::walking::{Walk, count_packets};
 use std::alloc::Global;
 
 /// The packets of a capture file, in order, from classic pcap or pcapng (draft-ietf-opsawg-pcapng). A packet without a
@@ -17,39 +17,15 @@ use std::alloc::Global;
 /// or a block.
 pub fn read_capture<'a>(alloc: Global, file: &'a [u8]) -> Result<Vec<Packet<'a>>, CaptureFault>
     ensures packets { IfOk result (λ packets. Holds file.entry.now (map seen_of packets.items)) }
+    ensures same { IfOk result
+        (λ packets. map seen_of packets.items ≡ packets_in file.entry.now) }
     ensures fault { IfErr result (Refuses file.entry.now) }
 {
-    if has_sections(file) {
-        return read_sections(alloc, file);
-    }
-    read_records(alloc, file)
-}
-
-fn has_sections(file: &[u8]) -> bool
-    ensures is { result ≡ has_sections file.now }
-{
-    match file {
-        [0x0a, 0x0d, 0x0d, 0x0a, ..] => true,
-        _ => false,
-    }
-}
-
-/// The packets of a classic capture file.
-fn read_records<'a>(alloc: Global, file: &'a [u8]) -> Result<Vec<Packet<'a>>, CaptureFault>
-    ensures packets { IfOk result
-        (λ packets. HoldsRecords file.entry.now (map seen_of packets.items)) }
-    ensures fault { IfErr result
-        (λ e. (e ≡ CaptureFault.NoMemory) ⊎ RefusesRecord file.entry.now e) }
-{
-    let form = read_form(file)?;
-    let mut packets = Vec::new(alloc);
-    let mut rest = file.split_at(24).1;
-    while !rest.is_empty() {
-        let Some((packet, after)) = first_packet(form, rest) else {
-            return Err(CaptureFault::CutRecord(packets.len() as u64));
-        };
+    let count = count_packets(alloc, file)?;
+    let mut packets = Vec::with_capacity(alloc, count)?;
+    let mut walk = Walk::new(alloc, file);
+    while let Some(packet) = walk.next()? {
         packets.push(packet)?;
-        rest = after;
     }
     Ok(packets)
 }

@@ -1,9 +1,9 @@
 //! The queues of all workers.
 
-ghost use Rattle.std.specs.Prelude.{◌≡◌, ◌<◌, [], length, slice_get, Some, IfOk};
+ghost use Rattle.std.specs.Prelude.{◌≡◌, ◌<◌, [], length, slice_get, Some, IfOk, OnOk};
 ghost use Rattle.ap_queues.specs.Passes.{IsWorkerOf, taken_by};
 ghost use Rattle.ap_queues.specs.declared.queue.EventQueue.{EventQueue};
-ghost use Rattle.ap_queues.specs.Lines.{ArePassesOf, AreLinesOf, AreTakenAt, HasPutNothing, numbers_of, puts_of};
+ghost use Rattle.ap_queues.specs.Lines.{ArePassesOf, AreLinesOf, AreTakenAt, AreAllTakenAt, HasPutNothing, HaveMade, MakesNoMore, MakesOneMore, numbers_of, puts_of};
 
 use crate::lines::fault::{LineFault, Unserved};
 use crate::lines::passes::{LinePasses, OperatorLines};
@@ -34,6 +34,7 @@ impl EventLines {
         requires some { 0 < workers }
         ensures workers { IfOk result (λ r. length r.0 ≡ workers) }
         ensures own { IfOk result (λ r. ArePassesOf r.0 r.1) }
+        ensures unmade { IfOk result (λ r. HaveMade 0 r.1) }
     {
         let mut queues = Vec::with_capacity(alloc, workers)?;
         let mut makers = Vec::with_capacity(alloc, workers)?;
@@ -78,6 +79,7 @@ impl EventLines {
         ensures left { ArePassesOf self.now left.new }
         ensures own { IfOk result (AreLinesOf self.now) }
         ensures unput { IfOk result (HasPutNothing self.now) }
+        ensures made { OnOk result (MakesOneMore left.old left.new) }
     {
         let mut passes = Vec::with_capacity(alloc, self.queues.len())?;
         for worker in 0..self.queues.len() {
@@ -99,6 +101,7 @@ impl EventLines {
         ensures own { IfOk result
             (λ p. (q : EventQueue) → slice_get self.now worker ≡ Some q → IsWorkerOf q p) }
         ensures untaken { IfOk result (λ p. taken_by p ≡ []) }
+        ensures made { MakesNoMore left.old left.new }
     {
         match left.workers[worker].take() {
             Some(pass) => Ok(pass),
@@ -123,5 +126,34 @@ impl EventLines {
         ensures order { AreTakenAt number operator.old worker.old }
     {
         self.queues[number].meet(worker, &mut operator.passes[number]);
+    }
+
+    /// As `meet`, for the only operator that the queues have: it put all that the worker took, which is a
+    /// prefix of what it put into the worker's queue, in order, once each. Does nothing at run time.
+    pub fn meet_alone(
+        &self,
+        number: usize,
+        worker: &mut WorkerPass,
+        operator: &mut OperatorLines,
+        left: &mut LinePasses,
+    )
+        requires there { number < length self.now }
+        requires worker { (q : EventQueue) → slice_get self.now number ≡ Some q →
+            IsWorkerOf q worker.old }
+        requires operator { AreLinesOf self.now operator.old }
+        requires left { ArePassesOf self.now left.old }
+        requires alone { HaveMade 1 left.old }
+        ensures worker { (q : EventQueue) → slice_get self.now number ≡ Some q →
+            IsWorkerOf q worker.new }
+        ensures operator { AreLinesOf self.now operator.new }
+        ensures left { ArePassesOf self.now left.new }
+        ensures taken { taken_by worker.new ≡ taken_by worker.old }
+        ensures numbers { numbers_of operator.new ≡ numbers_of operator.old }
+        ensures put { puts_of operator.new ≡ puts_of operator.old }
+        ensures made { HaveMade 1 left.new }
+        ensures order { AreAllTakenAt number operator.old worker.old }
+    {
+        let maker = &mut left.makers[number];
+        self.queues[number].meet_alone(worker, &mut operator.passes[number], maker);
     }
 }

@@ -163,26 +163,26 @@ fn answer_text(alloc: Global, line: u64, answer: &Answer) -> Result<String, Allo
         Answer::Usages(usages) => {
             append_usages(&mut text, line, usages.as_slice())?;
             append_end(&mut text, line, usages.len())?;
-            return Ok(text);
+            Ok(text)
         }
         Answer::Stations(rows) => {
             append_stations(&mut text, line, rows.as_slice())?;
             append_end(&mut text, line, rows.len())?;
-            return Ok(text);
+            Ok(text)
         }
         Answer::Agreements(rows) => {
             append_agreements(&mut text, line, rows.as_slice())?;
             append_end(&mut text, line, rows.len())?;
-            return Ok(text);
+            Ok(text)
         }
         Answer::Programs(rows) => {
             append_programs(&mut text, line, rows.as_slice())?;
             append_end(&mut text, line, rows.len())?;
-            return Ok(text);
+            Ok(text)
         }
         Answer::Counters(totals) => {
             append_counters(&mut text, line, totals)?;
-            return Ok(text);
+            Ok(text)
         }
         Answer::Dump {
             map,
@@ -192,7 +192,7 @@ fn answer_text(alloc: Global, line: u64, answer: &Answer) -> Result<String, Allo
             append_map(&mut text, line, *map, *shape)?;
             append_entries(&mut text, line, entries.as_slice())?;
             append_end(&mut text, line, entries.len())?;
-            return Ok(text);
+            Ok(text)
         }
     }
 }

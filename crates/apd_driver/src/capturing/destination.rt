@@ -69,15 +69,15 @@ impl<C: Capturing> Capturing for Option<C> {
 
     fn begin(&mut self) -> Result<(), Unrecorded> {
         match self {
-            Some(capture) => return capture.begin(),
-            None => return Ok(()),
+            Some(capture) => capture.begin(),
+            None => Ok(()),
         }
     }
 
     fn record(&mut self, commands: &[Numbered<'_>], reports: &[Report]) -> Result<(), Unrecorded> {
         match self {
-            Some(capture) => return capture.record(commands, reports),
-            None => return Ok(()),
+            Some(capture) => capture.record(commands, reports),
+            None => Ok(()),
         }
     }
 }

@@ -121,7 +121,7 @@ fn append_received(
                 bytes: frame.as_slice(),
                 comment: comment.as_bytes(),
             };
-            return append_packet(alloc, blocks, packet);
+            append_packet(alloc, blocks, packet)
         }
         Command::Tick(_)
         | Command::Kick { .. }
@@ -132,7 +132,7 @@ fn append_received(
         | Command::Store { .. }
         | Command::Read(_)
         | Command::Sum(_)
-        | Command::Wait => return Ok(()),
+        | Command::Wait => Ok(()),
     }
 }
 
@@ -190,9 +190,9 @@ fn append_out(
         ++ blocks_of (out_packets time line out.now)) }
 {
     match out {
-        Out::Send(frame) => return append_sent(alloc, blocks, time, line, frame.bytes()),
-        Out::Up(up) => return append_up(alloc, blocks, time, line, up),
-        Out::Note(_) => return Ok(()),
+        Out::Send(frame) => append_sent(alloc, blocks, time, line, frame.bytes()),
+        Out::Up(up) => append_up(alloc, blocks, time, line, up),
+        Out::Note(_) => Ok(()),
     }
 }
 
@@ -224,7 +224,7 @@ fn append_report(
 {
     match &report.told {
         Told::Handled { outs, .. } => {
-            return append_outs(alloc, blocks, time, report.line, outs.as_slice());
+            append_outs(alloc, blocks, time, report.line, outs.as_slice())
         }
         Told::Memory
         | Told::Loaded { .. }
@@ -233,7 +233,7 @@ fn append_report(
         | Told::Certificate { .. }
         | Told::Unreadable(_)
         | Told::Word { .. }
-        | Told::Malformed { .. } => return Ok(()),
+        | Told::Malformed { .. } => Ok(()),
     }
 }
 

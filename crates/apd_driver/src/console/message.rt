@@ -49,27 +49,27 @@ pub(crate) fn message_of<'a>(load: Loading<'a>, told: &Told, verbose: bool) -> O
     ensures refused { is_refusal told.now ≡ true → IsSome result }
 {
     match told {
-        Told::Fault(_) => return Some(Message::NotLoaded(load)),
-        Told::Refused { .. } => return Some(Message::NotLoaded(load)),
-        Told::Certificate { .. } => return Some(Message::NotLoaded(load)),
+        Told::Fault(_) => Some(Message::NotLoaded(load)),
+        Told::Refused { .. } => Some(Message::NotLoaded(load)),
+        Told::Certificate { .. } => Some(Message::NotLoaded(load)),
         Told::Unreadable(unread) => {
-            return Some(Message::NotRead {
+            Some(Message::NotRead {
                 load,
                 unread: *unread,
-            });
+            })
         }
         Told::Loaded { budget, slots } if verbose => {
-            return Some(Message::Loaded {
+            Some(Message::Loaded {
                 load,
                 slots: *slots,
                 budget: *budget,
-            });
+            })
         }
-        Told::Loaded { .. } => return None,
-        Told::Handled { .. } => return None,
-        Told::Memory => return None,
-        Told::Word { .. } => return None,
-        Told::Malformed { .. } => return None,
+        Told::Loaded { .. } => None,
+        Told::Handled { .. } => None,
+        Told::Memory => None,
+        Told::Word { .. } => None,
+        Told::Malformed { .. } => None,
     }
 }
 

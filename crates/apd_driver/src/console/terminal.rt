@@ -59,11 +59,11 @@ impl<'a, O: Write + Drop, E: Write> Write for Terminal<'a, O, E> {
         match self.out.write(buf) {
             Ok(count) => {
                 self.is_flushed = false;
-                return Ok(count);
+                Ok(count)
             }
             Err(error) => {
                 self.failed(error.kind());
-                return Err(error);
+                Err(error)
             }
         }
     }
@@ -79,10 +79,10 @@ impl<'a, O: Printing + Drop, E: Write> Printing for Terminal<'a, O, E> {
     fn print(&mut self, text: &[u8]) -> Result<(), Unwritten> {
         self.is_flushed = false;
         match self.out.print(text) {
-            Ok(()) => return Ok(()),
+            Ok(()) => Ok(()),
             Err(why) => {
                 self.failed(why.0);
-                return Err(why);
+                Err(why)
             }
         }
     }
@@ -93,10 +93,10 @@ impl<'a, O: Printing + Drop, E: Write> Printing for Terminal<'a, O, E> {
 
     fn record(&mut self, commands: &[Numbered<'_>], reports: &[Report]) -> Result<(), Unrecorded> {
         match self.out.record(commands, reports) {
-            Ok(()) => return Ok(()),
+            Ok(()) => Ok(()),
             Err(why) => {
                 self.reader_left = why == Unrecorded::Unwritten(ErrorKind::BrokenPipe);
-                return Err(why);
+                Err(why)
             }
         }
     }
@@ -116,11 +116,11 @@ impl<'a, O: Printing + Drop, E: Write> Console for Terminal<'a, O, E> {
             Ok(()) => {
                 self.is_flushed = true;
                 self.prompt();
-                return Ok(());
+                Ok(())
             }
             Err(error) => {
                 self.failed(error.kind());
-                return Err(error);
+                Err(error)
             }
         }
     }

@@ -20,12 +20,12 @@ fn turn<W: Serving + Drop, R: Wait>(
             if !closed && !handled {
                 thread::yield_now();
             }
-            return closed;
+            closed
         }
         Err(_) => {
             done.refused = true;
             signs.trouble.store(1, Ordering::SeqCst);
-            return true;
+            true
         }
     }
 }

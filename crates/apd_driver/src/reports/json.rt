@@ -39,8 +39,8 @@ fn sent_members(alloc: Global, frame: &[u8]) -> Result<String, AllocError>
     ensures is { IfOk result (λ text. string_bytes text ≡ sent_members frame.now) }
 {
     match notice_of(frame) {
-        Some(notice) => return format!(in alloc; "{}", Members(notice)),
-        None => return send_members(alloc, frame),
+        Some(notice) => format!(in alloc; "{}", Members(notice)),
+        None => send_members(alloc, frame),
     }
 }
 

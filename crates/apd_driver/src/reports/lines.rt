@@ -77,9 +77,9 @@ fn append_notice(text: &mut String, line: u64, notice: Option<Notice>) -> Result
     match notice {
         Some(notice) => {
             writeln!(text, "{line} {notice}")?;
-            return Ok(());
+            Ok(())
         }
-        None => return Ok(()),
+        None => Ok(()),
     }
 }
 
@@ -89,9 +89,9 @@ fn append_meaning(text: &mut String, line: u64, out: &Out) -> Result<(), AllocEr
         ++ notice_text line out.now) }
 {
     match out {
-        Out::Send(frame) => return append_notice(text, line, notice_of(frame.bytes())),
-        Out::Up(_) => return Ok(()),
-        Out::Note(_) => return Ok(()),
+        Out::Send(frame) => append_notice(text, line, notice_of(frame.bytes())),
+        Out::Up(_) => Ok(()),
+        Out::Note(_) => Ok(()),
     }
 }
 
@@ -164,7 +164,7 @@ fn append_told_noticed(
         Told::Handled { outs, dropped } => {
             append_noticed_outs(alloc, text, line, outs.as_slice())?;
             append_drop(text, line, *dropped)?;
-            return Ok(());
+            Ok(())
         }
         Told::Memory
         | Told::Loaded { .. }
@@ -173,7 +173,7 @@ fn append_told_noticed(
         | Told::Certificate { .. }
         | Told::Unreadable(_)
         | Told::Word { .. }
-        | Told::Malformed { .. } => return append_told(alloc, text, line, told),
+        | Told::Malformed { .. } => append_told(alloc, text, line, told),
     }
 }
 
@@ -191,11 +191,11 @@ fn append_told_json(
         Told::Handled { outs, dropped } => {
             append_outs_json(alloc, text, line, outs.as_slice())?;
             append_drop_json(text, line, *dropped)?;
-            return Ok(());
+            Ok(())
         }
         Told::Loaded { budget, .. } => {
             append_loaded_json(text, line, *budget)?;
-            return Ok(());
+            Ok(())
         }
         Told::Memory
         | Told::Fault(_)
@@ -203,7 +203,7 @@ fn append_told_json(
         | Told::Certificate { .. }
         | Told::Unreadable(_)
         | Told::Word { .. }
-        | Told::Malformed { .. } => return append_told(alloc, text, line, told),
+        | Told::Malformed { .. } => append_told(alloc, text, line, told),
     }
 }
 
@@ -220,9 +220,9 @@ fn append_styled(
     let line = report.line;
     let told = &report.told;
     match style {
-        Style::Lines => return append_told(alloc, text, line, told),
-        Style::Notices => return append_told_noticed(alloc, text, line, told),
-        Style::Json => return append_told_json(alloc, text, line, told),
+        Style::Lines => append_told(alloc, text, line, told),
+        Style::Notices => append_told_noticed(alloc, text, line, told),
+        Style::Json => append_told_json(alloc, text, line, told),
     }
 }
 

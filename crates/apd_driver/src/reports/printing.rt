@@ -10,7 +10,7 @@ use crate::capturing::{Printing, Unrecorded};
 use crate::reports::lines::{append_report, totals_line};
 use crate::reports::report::{Form, Report};
 use ap_books::Totals;
-use apd_files::Unwritten;
+use apd_files::{FileFault, Unwritten};
 use std::alloc::{AllocError, Global};
 
 /// Why a text wasn't written whole.
@@ -40,6 +40,15 @@ impl From<Unrecorded> for PrintFault {
         match error {
             Unrecorded::Unwritten(_) => PrintFault::Unwritten,
             Unrecorded::NoMemory => PrintFault::NoMemory,
+        }
+    }
+}
+
+impl From<FileFault> for PrintFault {
+    fn from(error: FileFault) -> PrintFault {
+        match error {
+            FileFault::NoMemory => PrintFault::NoMemory,
+            _ => PrintFault::Unread,
         }
     }
 }

@@ -74,12 +74,12 @@ impl<'a, R: Threads + Wait + Clock, C: Clock> Source for Timed<'a, R, C> {
     fn passed(&mut self) -> u32 {
         match &mut self.passing {
             Some(passing) => match Instant::now(self.clock) {
-                Ok(now) => return passing.tell(now),
-                Err(_) => return 0,
+                Ok(now) => passing.tell(now),
+                Err(_) => 0,
             },
             None => {
                 self.passing = begun(self.clock);
-                return 0;
+                0
             }
         }
     }

@@ -42,8 +42,8 @@ leave-requires-clause-inside g c = c.in-Some.ensures.place.inside
 pub leave-requires-clause-unwanted : goal.leave-requires-clause-unwanted
 leave-requires-clause-unwanted g c = λ d w. let v = rw (c.in-Some.ensures.is d) at w in let t = c.wants.ensures.1 v in let f = c.if-wants.false in cc
 
-pub returns-in-Some-clause-step : goal.returns-in-Some-clause-step
-returns-in-Some-clause-step g c =
+pub returns-else-wants-clause-step : goal.returns-else-wants-clause-step
+returns-else-wants-clause-step g c =
     silently_told g.J.Judge.gives _ _ _
     (left_from (standing c.args.state.now.link) c.args.state.now.agreements.kept c.leave.new.self.kept c.args.state.now.clock (packet c.args.came)
     c.sender-station.result c.sender-station.ensures c.args.tid c.requires.tid

@@ -12,14 +12,14 @@ use Rattle.ap_core.proofs.Handling.{silently_told, settled}
 use Rattle.ap_core.proofs.FrameLaws.{told_checked}
 use Rattle.ap_core.proofs.receive.check.Goals as goal
 
-pub returns-in-Permitted-clause-step : goal.returns-in-Permitted-clause-step
-returns-in-Permitted-clause-step g c =
+pub returns-in_ok-outcome-in-Permitted-clause-step : goal.returns-in_ok-outcome-in-Permitted-clause-step
+returns-in_ok-outcome-in-Permitted-clause-step g c =
     let e : class_answer (standing c.args.state.now.link c.args.came.frame.sender) (class_of (content_subtype c.args.came.frame.content)) ≡ Permitted =
     (let a = c.class_check.ensures in let b = c.requires.came.standing in let d = c.requires.came.class in let i = c.in-Permitted.is in cc) in
     told_checked g.J.Judge.gives (rules c.args.state.now.link.shard c.args.setting.config.now) (reading c.args.state.now) _ c.args.came.frame _ _ _ _ Permitted e c.in_ok-outcome-in-Permitted.ensures.step
 
-pub returns-in-Deauthenticate-clause-step : goal.returns-in-Deauthenticate-clause-step
-returns-in-Deauthenticate-clause-step g c =
+pub returns-in_ok-room-in-Deauthenticate-clause-step : goal.returns-in_ok-room-in-Deauthenticate-clause-step
+returns-in_ok-room-in-Deauthenticate-clause-step g c =
     let e : class_answer (standing c.args.state.now.link c.args.came.frame.sender) (class_of (content_subtype c.args.came.frame.content)) ≡ Deauthenticate c.in-Deauthenticate.reason =
     (let a = c.class_check.ensures in let b = c.requires.came.standing in let d = c.requires.came.class in let i = c.in-Deauthenticate.is in cc) in
     told_checked g.J.Judge.gives (rules c.args.state.now.link.shard c.args.setting.config.now) (reading c.args.state.now) _ c.args.came.frame _ _ _ _ (Deauthenticate c.in-Deauthenticate.reason) e
@@ -28,8 +28,8 @@ returns-in-Deauthenticate-clause-step g c =
     ∙ ap (λ t. sends (sent_management t c.bssid.result (management.Deauthentication c.in-Deauthenticate.reason) []) ∷ []) c.sender-station.ensures
     ∙ ap (λ b. sends (sent_management c.args.came.frame.sender b (management.Deauthentication c.in-Deauthenticate.reason) []) ∷ []) c.bssid.ensures)))
 
-pub returns-in-Disassociate-clause-step : goal.returns-in-Disassociate-clause-step
-returns-in-Disassociate-clause-step g c =
+pub returns-in_ok-room-in-Disassociate-clause-step : goal.returns-in_ok-room-in-Disassociate-clause-step
+returns-in_ok-room-in-Disassociate-clause-step g c =
     let e : class_answer (standing c.args.state.now.link c.args.came.frame.sender) (class_of (content_subtype c.args.came.frame.content)) ≡ Disassociate c.in-Disassociate.reason =
     (let a = c.class_check.ensures in let b = c.requires.came.standing in let d = c.requires.came.class in let i = c.in-Disassociate.is in cc) in
     told_checked g.J.Judge.gives (rules c.args.state.now.link.shard c.args.setting.config.now) (reading c.args.state.now) _ c.args.came.frame _ _ _ _ (Disassociate c.in-Disassociate.reason) e

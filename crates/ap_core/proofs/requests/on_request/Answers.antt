@@ -29,8 +29,8 @@ push_reserved-requires c =
     (c.request-first.ensures.few c.in-Some.entry.now) in
     omega (arith, few, c.held.ensures.is, c.in_ok-outs-in-Some.ensures.exact, c.in_ok-outs-in-Some.ensures.len, c.pass_up.ensures.len, c.pass_up.ensures.capacity)
 
-pub returns-in-Some-clause-step : goal.returns-in-Some-clause-step
-returns-in-Some-clause-step c =
+pub returns-in_ok-frame-in-Some-clause-step : goal.returns-in_ok-frame-in-Some-clause-step
+returns-in_ok-frame-in-Some-clause-step c =
     let board = c.request-first.result in
     let passed = c.request-first.new.out.items in
     reported_from (rules c.args.state.now.link.shard c.args.setting.config.now) (standing c.args.state.now.link) c.args.state.now.agreements.kept c.request-first.new.self.kept c.args.state.now.clock c.args.station c.args.tid c.args.start

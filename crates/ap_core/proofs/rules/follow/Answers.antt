@@ -6,18 +6,18 @@ use Rattle.ap_core.proofs.Handling.{silently_told}
 use Rattle.ap_core.proofs.DropLaws.{management_told}
 use Rattle.ap_core.proofs.rules.follow.Goals as goal
 
-pub returns-in-Management-clause-step : goal.returns-in-Management-clause-step
-returns-in-Management-clause-step g c =
+pub returns-in_ok-outs-in-Management-clause-step : goal.returns-in_ok-outs-in-Management-clause-step
+returns-in_ok-outs-in-Management-clause-step g c =
     let e = sym c.content.ensures ∙ c.in-Management.is in
     rw e (management_told g.J.Judge.gives (rules c.args.state.now.link.shard c.args.setting.config.now) (reading c.args.state.now) _ c.args.came.frame c.in-Management.body _ _ _ c.in_ok-outs-in-Management.ensures.step)
 
-pub returns-in-Control-clause-step : goal.returns-in-Control-clause-step
-returns-in-Control-clause-step g c =
+pub returns-in_ok-outs-in-Control-clause-step : goal.returns-in_ok-outs-in-Control-clause-step
+returns-in_ok-outs-in-Control-clause-step g c =
     let e = sym c.content.ensures ∙ c.in-Control.is in
     rw e (silently_told g.J.Judge.gives _ _ _ (c.in_ok-outs-in-Control.ensures.step c.args.came.frame (sym c.sender.ensures)))
 
-pub returns-in-Data-clause-step : goal.returns-in-Data-clause-step
-returns-in-Data-clause-step g c =
+pub returns-in_ok-outcome-in-Data-clause-step : goal.returns-in_ok-outcome-in-Data-clause-step
+returns-in_ok-outcome-in-Data-clause-step g c =
     let e = sym c.content.ensures ∙ c.in-Data.is in
     rw e (c.in_ok-outcome-in-Data.ensures.step (rules c.args.state.now.link.shard c.args.setting.config.now))
 

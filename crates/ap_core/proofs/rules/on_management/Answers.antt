@@ -12,5 +12,5 @@ pub on_class_two-requires-clause-known : goal.on_class_two-requires-clause-known
 on_class_two-requires-clause-known g c =
     subst (λ s. IsSome s) c.requires.came.standing (known_from_class c.args.came.now.standing (rw c.in-Two.is at c.requires.permitted))
 
-pub returns-in-One-clause-step : goal.returns-in-One-clause-step
-returns-in-One-clause-step g c = silently g.J.Judge.gives _ _ _ (c.in_ok-outs-in-One.ensures.step c.args.came.now.frame (sym c.sender.ensures))
+pub returns-in_ok-outs-in-One-clause-step : goal.returns-in_ok-outs-in-One-clause-step
+returns-in_ok-outs-in-One-clause-step g c = silently g.J.Judge.gives _ _ _ (c.in_ok-outs-in-One.ensures.step c.args.came.now.frame (sym c.sender.ensures))

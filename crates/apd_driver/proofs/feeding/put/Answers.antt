@@ -3,9 +3,9 @@ use Rattle.apd_driver.specs.Crews.{Crew, with_work}
 use Rattle.apd_driver.proofs.Puts.{concerns_still, puts_rest, waits_again}
 use Rattle.apd_driver.proofs.feeding.put.Goals as goal
 
-pub returns-in-Ok-go_on-clause-puts : goal.returns-in-Ok-go_on-clause-puts
-returns-in-Ok-go_on-clause-puts g c =
-    puts_rest _ _ _ _ _ _ _ c.loop.invariant.3 (rw c.in-Ok-go_on.is at c.go_on.ensures.puts (concerns_still _ _ _ _ _ _ _ c.loop.invariant.3))
+pub returns-in_default-go_on-clause-puts : goal.returns-in_default-go_on-clause-puts
+returns-in_default-go_on-clause-puts g c =
+    puts_rest _ _ _ _ _ _ _ c.loop.invariant.3 (rw c.in_default-go_on.is at c.go_on.ensures.puts (concerns_still _ _ _ _ _ _ _ c.loop.invariant.3))
 
 pub loop-preserved : goal.loop-preserved
 loop-preserved g c = (

@@ -1,3 +1,4 @@
+use Rattle.apd_driver.proofs.Broken.{on_err}
 use Rattle.std.proofs.Common.{◌≤◌, [], length, take, refl, sym, ◌∙◌, arith}
 use Rattle.std.proofs.lemmas.List.{length-take}
 use Rattle.apd_driver.specs.Shows.{Nothing, InInterval}
@@ -12,24 +13,24 @@ intervals-init g c =
 pub intervals-preserved : goal.intervals-preserved
 intervals-preserved g c =
     let goes_on = sym c.is_over.ensures.is ∙ c.if-is_over.false in
-    let le : c.intervals.line ≤ c.in-Ok.passed.next = omega (arith, c.in-Ok.ensures.on) in
+    let le : c.intervals.line ≤ c.in_ok-passed.passed.next = omega (arith, c.in_ok-passed.ensures.on) in
     record {
-      home = c.in-Ok.ensures.home;
-      workers = c.in-Ok.ensures.workers ∙ c.intervals.invariant.workers;
-      within = within_all c.args.commands.now c.min-end.result c.in-Ok.passed.next c.in-Ok.ensures.within;
+      home = c.in_ok-passed.ensures.home;
+      workers = c.in_ok-passed.ensures.workers ∙ c.intervals.invariant.workers;
+      within = within_all c.args.commands.now c.min-end.result c.in_ok-passed.passed.next c.in_ok-passed.ensures.within;
       shown = rw c.and-found.ensures.memory
           (rw c.and-found.ensures.refused
-          (shows_then _ _ _ _ _ _ _ _ _ _ _ _ _ _ _ (taken_within c.args.commands.now _ c.min-end.result _ _ refl le c.in-Ok.ensures.within) refl c.intervals.invariant.shown goes_on c.in-Ok.ensures.shows.shows));
-      kept = keeps_more _ _ _ _ _ _ _ _ _ _ _ _ _ _ _ (taken_within c.args.commands.now _ c.min-end.result _ _ refl le c.in-Ok.ensures.within) c.intervals.invariant.kept c.in-Ok.ensures.shows;
+          (shows_then _ _ _ _ _ _ _ _ _ _ _ _ _ _ _ (taken_within c.args.commands.now _ c.min-end.result _ _ refl le c.in_ok-passed.ensures.within) refl c.intervals.invariant.shown goes_on c.in_ok-passed.ensures.shows.shows));
+      kept = keeps_more _ _ _ _ _ _ _ _ _ _ _ _ _ _ _ (taken_within c.args.commands.now _ c.min-end.result _ _ refl le c.in_ok-passed.ensures.within) c.intervals.invariant.kept c.in_ok-passed.ensures.shows;
     }
 
-pub returns-in-Err-clause-breaks : goal.returns-in-Err-clause-breaks
-returns-in-Err-clause-breaks g c =
+pub returns-in_err-passed-clause-breaks : goal.returns-in_err-passed-clause-breaks
+returns-in_err-passed-clause-breaks g c =
     let goes_on = sym c.is_over.ensures.is ∙ c.if-is_over.false in
-    let b = c.in-Err.ensures.breaks in
+    let b = c.in_err-passed.ensures.breaks in
     let some : c.intervals.line ≤ length (take c.min-end.result c.args.commands.now) = omega (arith, length-take c.min-end.result c.args.commands.now, c.min-end.ensures, c.saturating_add.ensures, c.intervals-test.true, c.intervals.invariant.within) in
-    InInterval _ b.lines [] _ _ _ _ _ c.intervals.invariant.shown goes_on b.breaks
-    (begun_within c.args.commands.now _ c.min-end.result c.intervals.line b.lines b.rest _ refl some b.first refl)
+    on_err _ _ (InInterval _ b.lines [] _ _ _ _ _ c.intervals.invariant.shown goes_on b.breaks
+    (begun_within c.args.commands.now _ c.min-end.result c.intervals.line b.lines b.rest _ refl some b.first refl))
 
 pub returns-then-is_over-clause-shows : goal.returns-then-is_over-clause-shows
 returns-then-is_over-clause-shows g c =

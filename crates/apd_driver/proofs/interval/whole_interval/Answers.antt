@@ -6,8 +6,8 @@ use Rattle.apd_driver.proofs.Captured.{no_commands, shows_malformed, shows_same,
 use Rattle.apd_driver.proofs.Gathering.{breaks_malformed, no_lines}
 use Rattle.apd_driver.proofs.interval.whole_interval.Goals as goal
 
-pub returns-in-Ok-clause-shows : goal.returns-in-Ok-clause-shows
-returns-in-Ok-clause-shows g c = shows_same _ _ _ _ _ _ _ _ _ _ _ _ (whole_segment _ _ (c.in-Ok.ensures.rest ∙ c.requires.whole)) c.in-Ok.ensures.shows
+pub returns-clause-shows : goal.returns-clause-shows
+returns-clause-shows g c = shows_same _ _ _ _ _ _ _ _ _ _ _ _ (whole_segment _ _ (c.in_ok-passed.ensures.rest ∙ c.requires.whole)) c.in_ok-passed.ensures.shows
 
 pub returns-then-is_empty-clause-shows : goal.returns-then-is_empty-clause-shows
 returns-then-is_empty-clause-shows g c =

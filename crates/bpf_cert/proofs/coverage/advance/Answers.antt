@@ -17,8 +17,8 @@ follow-requires g c =
     let b = subst (Begins c.args.program.now.slots) c.pc.ensures.is c.if-not-begins.ensures.is in
     record { target = second_target c.args.program.now b.0 c.args.state c.in-Ok.ways c.whole.ensures.is b.1 (c.in-Ok.ensures.is b.0 b.1) }
 
-pub returns-in-Ok-clause-is : goal.returns-in-Ok-clause-is
-returns-in-Ok-clause-is g c =
+pub returns-in_ok-step-in-Ok-clause-is : goal.returns-in_ok-step-in-Ok-clause-is
+returns-in_ok-step-in-Ok-clause-is g c =
     let b = subst (Begins c.args.program.now.slots) c.pc.ensures.is c.if-not-begins.ensures.is in
     examined_goes c.args.program.now c.args.claims.now c.args.left c.args.state b.0 c.in-Ok.ways c.in_ok-step-in-Ok.step b.1 (c.in-Ok.ensures.is b.0 b.1) c.in_ok-step-in-Ok.ensures.is
 

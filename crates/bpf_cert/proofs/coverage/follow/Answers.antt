@@ -11,8 +11,8 @@ returns-then-not-told-clause-is g c =
     let out = told_false c.in_ok-told-in-Two.told (IsIncluded es c.in-Two.target n) c.if-not-told.true c.in_ok-told-in-Two.ensures.is in
     rw c.in-Two.is (second_out code es n c.in-Two.next c.in-Two.target t out)
 
-pub returns-in-Two-clause-is : goal.returns-in-Two-clause-is
-returns-in-Two-clause-is g c =
+pub returns-in_ok-step-in-Two-clause-is : goal.returns-in_ok-step-in-Two-clause-is
+returns-in_ok-step-in-Two-clause-is g c =
     let t = rw c.in-Two.is at c.requires.target in
     let code = c.args.program.now in
     let es = c.args.claims.now in

@@ -26,8 +26,8 @@ returns-in-Word-clause-performs g c =
     asks_as g.P.Port.gives (g.P.Port.shapes c.args.port.now) _ (Access c.in-Word.map c.in-Word.word (Store (number_or_zero c.args.value))) c.access-nothing.result (λ notes a. next_pc (at c.args.machine.now notes)) _ _ c.args.machine.now _ _ refl
     (rw (← c.number_of.ensures) c.access-nothing.ensures.gives) c.access-nothing.ensures.in_range (λ notes. simp c.in-Word.is) (λ notes. refl)
 
-pub returns-in-Stack-clause-performs : goal.returns-in-Stack-clause-performs
-returns-in-Stack-clause-performs g c =
+pub returns-else-points_elsewhere-clause-performs : goal.returns-else-points_elsewhere-clause-performs
+returns-else-points_elsewhere-clause-performs g c =
     let m : Machine = c.args.machine.now in
     let after : List StackFrame → List StackFrame = λ l. slice_set l c.in-Stack.frame (stored (slice_index_or l c.in-Stack.frame empty_frame) c.in-Stack.at c.args.size c.args.value) in
     let e : refill (length m.stack.items) m.stack.items c.store_in.new.stack ≡ after m.stack.items =

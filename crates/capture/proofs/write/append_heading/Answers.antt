@@ -1,5 +1,4 @@
-use Rattle.std.proofs.Common.{◌≡◌, ◌++◌, ◌∷◌, [], List, ℕ, ◌/◌, ◌%◌, ◌^◌, length, take, rules}
-use Rattle.byteorder.specs.Endian.{little_bytes}
+use Rattle.std.proofs.Common.{◌≡◌, ◌++◌, rules}
 use Rattle.capture.specs.declared.new_packet.Side.TheVariants.{In, Out, Up}
 use Rattle.capture.specs.Blocks.{section}
 use Rattle.capture.specs.Writing.{block_of, section_body, interface_body}

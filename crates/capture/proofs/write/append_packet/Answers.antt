@@ -1,5 +1,5 @@
-use Rattle.std.proofs.Common.{◌≡◌, ◌<◌, ◌+◌, ◌^◌, ◌++◌, ◌∙◌, length, sym, ap, subst}
-use Rattle.capture.specs.Writing.{block_of, packet_body, written_of}
+use Rattle.std.proofs.Common.{◌<◌, ◌+◌, ◌^◌, ◌++◌, ◌∙◌, length, sym, ap, subst}
+use Rattle.capture.specs.Writing.{block_of, written_of}
 use Rattle.capture.proofs.Written.{packet_short}
 use Rattle.capture.proofs.write.append_packet.Goals as goal
 

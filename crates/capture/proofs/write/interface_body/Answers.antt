@@ -1,4 +1,4 @@
-use Rattle.std.proofs.Common.{◌≡◌, ◌++◌, ◌∷◌, [], List, ℕ, ◌/◌, ◌%◌, ◌^◌, length, take, rules}
+use Rattle.std.proofs.Common.{◌≡◌, ◌++◌, ◌∷◌, [], List, ℕ, rules}
 use Rattle.byteorder.specs.Endian.{little_bytes}
 use Rattle.capture.specs.Writing.{link_number, most_kept, option_of, name_of, ending}
 use Rattle.capture.proofs.Counted.{begun, more, last}

@@ -1,4 +1,4 @@
-use Rattle.std.proofs.Common.{◌≡◌, ◌++◌, ◌∷◌, [], List, ℕ, ◌/◌, ◌%◌, ◌^◌, length, ap, ◌∙◌, rules}
+use Rattle.std.proofs.Common.{◌≡◌, ◌++◌, List, ℕ, ◌/◌, ◌%◌, ◌^◌, length, ap, ◌∙◌, rules}
 use Rattle.byteorder.specs.Endian.{little_bytes}
 use Rattle.capture.specs.Writing.{number_of, original, padding, most_kept, option_of, ending, cut_to, written_of}
 use Rattle.capture.proofs.Counted.{begun, more, last}

@@ -1,4 +1,4 @@
-use Rattle.std.proofs.Common.{◌≡◌, ◌+◌, ◌++◌, ◌∙◌, ◌↔◌, ℕ, List, [], length, drop, map, sym, ap, subst, append-nil, arith}
+use Rattle.std.proofs.Common.{◌≡◌, ◌+◌, ◌++◌, ◌∙◌, ◌↔◌, ℕ, List, [], drop, map, sym, ap, subst, append-nil, arith}
 use Rattle.std.proofs.lemmas.List.{drop_all}
 use Rattle.capture.specs.Captures.{Holds}
 use Rattle.capture.specs.Writing.{heading, blocks_of, packet_block, file_of, seen_from, written_of}

@@ -3,8 +3,8 @@ use Rattle.ap_model.specs.declared.event.Event.TheVariants as event
 use Rattle.ap_core.proofs.Pasts.{either}
 use Rattle.ap_core.proofs.shard.Shard.handle_with_drop.Goals as goal
 
-pub returns-in-Frame-clause-step : goal.returns-in-Frame-clause-step
-returns-in-Frame-clause-step g c = rw c.in-Frame.is (rw c.bytes-bytes.ensures at c.in_ok-outcome-in-Frame.ensures.step)
+pub returns-in_ok-outcome-in-Frame-clause-step : goal.returns-in_ok-outcome-in-Frame-clause-step
+returns-in_ok-outcome-in-Frame-clause-step g c = rw c.in-Frame.is (rw c.bytes-bytes.ensures at c.in_ok-outcome-in-Frame.ensures.step)
 
 pub invariant_of-self : goal.invariant_of-self
 invariant_of-self g c =

@@ -1,3 +1,4 @@
+use Rattle.apd_driver.proofs.Broken.{on_err}
 use Rattle.std.proofs.Common.{refl, sym, ◌∙◌}
 use Rattle.apd_driver.proofs.Batches.{breaks_flushed, breaks_more, shows_flushed, shows_more, shows_none}
 use Rattle.apd_driver.proofs.Kept.{run_flushed, run_more, run_none}
@@ -12,21 +13,22 @@ intervals-preserved g c =
     let goes_on = sym c.is_over.ensures.is ∙ c.if-is_over.false in
     let flushed = shows_flushed _ _ _ _ _ _ _ _ c.intervals.invariant.shown c.advance.ensures.keeps in
     record {
-      home = c.in-Ok.ensures.home;
-      workers = c.in-Ok.ensures.workers ∙ c.intervals.invariant.workers;
-      shown = rw c.and-found.ensures.memory (rw c.and-found.ensures.refused (shows_more _ _ _ _ _ _ _ _ _ _ _ flushed goes_on c.in-Ok.ensures.shows));
-      kept = run_more _ _ _ _ _ _ _ (run_flushed _ _ _ _ _ _ _ c.intervals.invariant.kept c.advance.ensures.keeps c.advance.ensures.kept) c.in-Ok.ensures.keeps;
+      home = c.in_ok-passed.ensures.home;
+      workers = c.in_ok-passed.ensures.workers ∙ c.intervals.invariant.workers;
+      shown = rw c.and-found.ensures.memory (rw c.and-found.ensures.refused (shows_more _ _ _ _ _ _ _ _ _ _ _ flushed goes_on c.in_ok-passed.ensures.shows));
+      kept = run_more _ _ _ _ _ _ _ (run_flushed _ _ _ _ _ _ _ c.intervals.invariant.kept c.advance.ensures.keeps c.advance.ensures.kept) c.in_ok-passed.ensures.keeps;
     }
 
-pub returns-in-Ok-false-clause-shows : goal.returns-in-Ok-false-clause-shows
-returns-in-Ok-false-clause-shows g c = shows_flushed _ _ _ _ _ _ _ _ c.intervals.invariant.shown c.advance.ensures.keeps
+pub returns-then-not-branch-clause-shows : goal.returns-then-not-branch-clause-shows
+returns-then-not-branch-clause-shows g c = shows_flushed _ _ _ _ _ _ _ _ c.intervals.invariant.shown c.advance.ensures.keeps
 
-pub returns-in-Err-clause-breaks : goal.returns-in-Err-clause-breaks
-returns-in-Err-clause-breaks g c = breaks_flushed _ _ _ _ _ _ _ _ c.intervals.invariant.shown c.advance.ensures.keeps
+pub returns-in_err-advance-clause-breaks : goal.returns-in_err-advance-clause-breaks
+returns-in_err-advance-clause-breaks g c =
+    on_err _ _ (breaks_flushed _ _ _ _ _ _ _ _ c.intervals.invariant.shown c.advance.ensures.keeps)
 
-pub returns-in-Err-do_lines-clause-breaks : goal.returns-in-Err-do_lines-clause-breaks
-returns-in-Err-do_lines-clause-breaks g c =
-    breaks_more _ _ _ _ _ _ _ _ (shows_flushed _ _ _ _ _ _ _ _ c.intervals.invariant.shown c.advance.ensures.keeps) (sym c.is_over.ensures.is ∙ c.if-is_over.false) c.in-Err-do_lines.ensures.breaks
+pub returns-in_err-passed-clause-breaks : goal.returns-in_err-passed-clause-breaks
+returns-in_err-passed-clause-breaks g c =
+    on_err _ _ (breaks_more _ _ _ _ _ _ _ _ (shows_flushed _ _ _ _ _ _ _ _ c.intervals.invariant.shown c.advance.ensures.keeps) (sym c.is_over.ensures.is ∙ c.if-is_over.false) c.in_err-passed.ensures.breaks)
 
-pub returns-in-Ok-false-clause-keeps : goal.returns-in-Ok-false-clause-keeps
-returns-in-Ok-false-clause-keeps g c = run_flushed _ _ _ _ _ _ _ c.intervals.invariant.kept c.advance.ensures.keeps c.advance.ensures.kept
+pub returns-then-not-branch-clause-keeps : goal.returns-then-not-branch-clause-keeps
+returns-then-not-branch-clause-keeps g c = run_flushed _ _ _ _ _ _ _ c.intervals.invariant.kept c.advance.ensures.keeps c.advance.ensures.kept

@@ -2,6 +2,7 @@ use Rattle.std.proofs.Common.{◌≡◌, length, vec_capacity}
 use Rattle.ap_queues.specs.Passes.{IsMakerOf}
 use Rattle.ap_rows.specs.Rows.{Stand}
 use Rattle.ap_queues.specs.Lines.{MayTake}
+use Rattle.ap_queues.proofs.Makers.{Made}
 use Rattle.ap_queues.proofs.lines.lines.EventLines.open.Given as goal
 
 abbrev pub invariant-loop : goal.invariant-loop
@@ -12,6 +13,7 @@ invariant-loop l = record {
   room : vec_capacity l.queues ≡ l.workers;
   room_made : vec_capacity l.makers ≡ l.workers;
   room_taken : vec_capacity l.passes ≡ l.workers;
+  unmade : Made 0 l.makers.items;
   makers : Stand IsMakerOf l.queues.items l.makers.items;
   workers : Stand MayTake l.queues.items l.passes.items;
 }
