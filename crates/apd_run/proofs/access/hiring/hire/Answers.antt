@@ -18,7 +18,7 @@ loop-number-preserved g c =
     let stock = c.loop-number.left.shards in
     record {
       left = c.worker.ensures.left;
-      unmade = c.worker.ensures.made 0 c.loop-number.invariant.unmade;
+      unmade = c.worker.ensures.made.kept 0 c.loop-number.invariant.unmade;
       all = c.worker.ensures.keeps.workers ∙ c.loop-number.invariant.all;
       own = all_and_one (IsWorker a) (IsWorker b) old new token (λ w. c.tokens_law.ensures.workers a b w c.worker.ensures.keeps) c.loop-number.invariant.own c.in-Ok.ensures.own c.in_ok-push.ensures.items;
       new_workers = all_and_one IsNewWorker IsNewWorker old new token (λ w h. h) c.loop-number.invariant.new_workers
