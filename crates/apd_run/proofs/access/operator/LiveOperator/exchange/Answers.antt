@@ -1,4 +1,4 @@
-use Rattle.std.proofs.Common.{◌≡◌, ap, sym, subst, ◌∙◌}
+use Rattle.std.proofs.Common.{◌≡◌, ◌+◌, ap, length, sym, subst, ◌∙◌}
 use Rattle.std.specs.Global.{Vec}
 use Rattle.ap_books.specs.Holdings.{HasMerged, HasMoreThan, HasParts, HasSplit, Holding, sum_of}
 use Rattle.ap_books.specs.Reading.{Reads}
@@ -60,8 +60,9 @@ invariant_of-self g c =
 
 pub invariant_of-worker : goal.invariant_of-worker
 invariant_of-worker g c =
+    let more = subst (λ (w : RunWorker). c.args.given ≡ w.given + length w.handled) (sym c.worker.view_is) c.requires.given in
     let empty = ap (λ (v : Vec Tagged). v.items) c.replace-handled.ensures.after ∙ c.new.ensures.items in
-    other_parts _ _ _ c.split_off-fresh.result c.replace-handled.new.dest.items (c.renew-counted.ensures.same ∙ ap (λ (w : Worker). record w { shards = c.renew-counted.new.self.shards }) c.take_counts-runs.ensures.anew) c.renew-counted.ensures.taken c.split_off-fresh.ensures.parts c.split_off-fresh.ensures.none empty (renewed_unowned _ _ c.renew-counted.ensures.renewed) c.worker.invariant
+    other_parts _ _ _ c.split_off-fresh.result c.replace-handled.new.dest.items c.args.given more (c.renew-counted.ensures.same ∙ ap (λ (w : Worker). record w { shards = c.renew-counted.new.self.shards }) c.take_counts-runs.ensures.anew) c.renew-counted.ensures.taken c.split_off-fresh.ensures.parts c.split_off-fresh.ensures.none empty (renewed_unowned _ _ c.renew-counted.ensures.renewed) c.worker.invariant
 
 pub returns-clause-crew : goal.returns-clause-crew
 returns-clause-crew g c =
@@ -76,5 +77,8 @@ returns-clause-crew g c =
 
 pub returns-clause-accounts : goal.returns-clause-accounts
 returns-clause-accounts g c =
-    subst (λ (w : RunWorker). Accounts w.token c.replace-handled.result.items) c.worker.view_is
-    (subst (λ (v : Vec Tagged). Accounts c.worker.inside.token v.items) (sym c.replace-handled.ensures.value) c.worker.invariant.accounts)
+    subst (λ (w : RunWorker). Accounts w.given w.token c.replace-handled.result.items) c.worker.view_is
+    (subst (λ (v : Vec Tagged). Accounts c.worker.inside.given c.worker.inside.token v.items) (sym c.replace-handled.ensures.value) c.worker.invariant.accounts)
+
+pub returns-clause-given : goal.returns-clause-given
+returns-clause-given g c = ap (λ (v : Vec Tagged). length v.items) c.replace-handled.ensures.value ∙ ap (λ (w : RunWorker). length w.handled) c.worker.view_is
