@@ -4,7 +4,7 @@ use Rattle.bpf_regions.specs.declared.maps.Shape.{Shape}
 use Rattle.bpf_helpers.specs.Hooked.{shapes_of}
 use Rattle.versions.specs.Lists.{Beginning}
 use Rattle.ap_queues.specs.declared.queue.EventQueue.{EventQueue}
-use Rattle.ap_queues.specs.Lines.{ArePassesOf}
+use Rattle.ap_queues.specs.Lines.{ArePassesOf, HaveMade}
 use Rattle.ap_queues.specs.declared.lines.passes.LinePasses.{LinePasses}
 use Rattle.ap_tables.specs.Stocks.{Stock}
 use Rattle.ap_shards.specs.Opening.{whole}
@@ -17,10 +17,12 @@ use Rattle.ap_live.specs.Tokens.{AreLeft, Left}
 abbrev pub parts_in_all : ℕ
 parts_in_all = 17
 
--- the queues of this many workers, with their handles, and their tables of maps of these shapes
+-- the queues of this many workers, with their handles, none of which an operator has, and their tables of maps of
+-- these shapes
 pub record ArePlaces (workers : ℕ) (shapes : List Shape) (queues : List EventQueue) (passes : LinePasses) (stock : Stock) : Type 0 where
   pub count : length queues ≡ workers
   pub passes_are : ArePassesOf queues passes
+  pub unmade : HaveMade 0 passes
   pub maps : shapes_of stock.maps ≡ shapes
   pub many : stock.workers ≡ workers
 
@@ -32,6 +34,7 @@ pub record IsOpened (workers : ℕ) (shapes : List Shape) (draw : ℕ) (a : Live
   pub list : published ≡ a.list
   pub no_loads : published.loads ≡ []
   pub rest : AreLeft a left
+  pub unmade : HaveMade 0 left.passes
   pub readers : left.readers.left ≡ workers
   pub parts : left.parts ≡ parts_in_all
   pub shards : left.shards ≡ whole parts_in_all

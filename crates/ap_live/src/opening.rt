@@ -3,7 +3,7 @@
 ghost use Rattle.std.specs.Prelude.{◌≡◌, ◌-◌, ◌<◌, ◌≤◌, [], IfOk, OnErr, OnOk};
 ghost use Rattle.bpf_helpers.specs.Hooked.{IsFitting, KeepTables};
 ghost use Rattle.versions.specs.Lists.{readers_of};
-ghost use Rattle.ap_queues.specs.Lines.{HasPutNothing};
+ghost use Rattle.ap_queues.specs.Lines.{HasPutNothing, MakesNoMore, MakesOneMore};
 ghost use Rattle.ap_queues.specs.Passes.{taken_by};
 ghost use Rattle.ap_shards.specs.Opening.{AreNamed, whole};
 ghost use Rattle.ap_shards.specs.Pages.{AreNewPages};
@@ -184,6 +184,7 @@ impl<B: Ledgers + Journals> LiveAp<B> {
         ensures unput { IfOk result (λ o. HasPutNothing self.new.queues o.lines) }
         ensures new { IfOk result (λ o. IsNewcomer left.old.shards o.shards) }
         ensures given { OnOk result (GaveToken left.old left.new) }
+        ensures made { OnOk result (MakesOneMore left.old.passes left.new.passes) }
         ensures refused { OnErr result (GaveNothing left.old left.new) }
     {
         let lines = self.lines.operator(alloc, &mut left.passes)?;
@@ -222,6 +223,7 @@ impl<B: Ledgers + Journals> LiveAp<B> {
         ensures uncounted { IfOk result (λ w. w.held.counts ≡ no_counts) }
         ensures new { IfOk result (λ w. IsNewcomer left.old.shards w.shards) }
         ensures given { OnOk result (GaveToken left.old left.new) }
+        ensures made { MakesNoMore left.old.passes left.new.passes }
         ensures refused { OnErr result (GaveNothing left.old left.new) }
     {
         let pass = self.lines.worker(&mut left.passes, number)?;

@@ -1,7 +1,7 @@
 //! How an operator puts events, and what a worker took of them.
 
 ghost use Rattle.std.specs.Prelude.{◌≡◌, ◌<◌, ◌-◌, IfErr, OnOk};
-ghost use Rattle.ap_queues.specs.Lines.{AreTakenAt, numbers_of, puts_of};
+ghost use Rattle.ap_queues.specs.Lines.{AreAllTakenAt, ArePassesOf, AreTakenAt, HaveMade, numbers_of, puts_of};
 ghost use Rattle.ap_queues.specs.Passes.{taken_by};
 ghost use Rattle.ap_queues.specs.Putting.{IsTick, first_shard, shard_count, served};
 ghost use Rattle.ap_queues.specs.Refusing.{StopsAt};
@@ -12,7 +12,7 @@ use crate::tokens::{OperatorToken, WorkerToken};
 use ap_books::Ledgers;
 use ap_locked::Journals;
 use ap_model::Event;
-use ap_queues::Unserved;
+use ap_queues::{LinePasses, Unserved};
 use std::sync::Wait;
 
 impl<B: Ledgers + Journals> LiveAp<B> {
@@ -80,5 +80,33 @@ impl<B: Ledgers + Journals> LiveAp<B> {
     {
         let WorkerToken { number, pass, .. } = worker;
         self.lines.meet(*number, pass, &mut operator.lines);
+    }
+    /// As `meet`, for the only operator: it put all that the worker took, which is a prefix of what it put
+    /// into the worker's queue, in order, once each. `left` has the handles of the queues that were not
+    /// given. Does nothing at run time.
+    pub fn meet_alone(
+        &self,
+        worker: &mut WorkerToken<B>,
+        operator: &mut OperatorToken<B>,
+        left: &mut LinePasses,
+    )
+        requires worker { IsWorker self.now worker.old }
+        requires operator { IsOperator self.now operator.old }
+        requires left { ArePassesOf self.now.queues left.old }
+        requires alone { HaveMade 1 left.old }
+        ensures worker { IsWorker self.now worker.new }
+        ensures operator { IsOperator self.now operator.new }
+        ensures left { ArePassesOf self.now.queues left.new }
+        ensures made { HaveMade 1 left.new }
+        ensures order { AreAllTakenAt worker.old.number operator.old.lines worker.old.pass }
+        ensures taken { taken_by worker.new.pass ≡ taken_by worker.old.pass }
+        ensures put { puts_of operator.new.lines ≡ puts_of operator.old.lines }
+        ensures numbers { numbers_of operator.new.lines ≡ numbers_of operator.old.lines }
+        ensures same { worker.new ≡ record worker.old { pass = worker.new.pass } }
+        ensures same_operator { operator.new ≡ record operator.old { lines = operator.new.lines } }
+    {
+        let WorkerToken { number, pass, .. } = worker;
+        self.lines
+            .meet_alone(*number, pass, &mut operator.lines, left);
     }
 }

@@ -147,6 +147,26 @@ impl<B: Ledgers + Journals> LeftTokens<B> {
     ghost use Rattle.ap_books.specs.Holdings.{HasParts};
     ghost use Rattle.ap_shards.specs.Tokens.{holding_of};
 
+    /// The parts of the ledgers that were not given, as many pages, of which one may have entries, and the
+    /// handles of the queues that were not given.
+    pub fn into_all(self) -> (Portions<B>, AllPages<B>, LinePasses)
+        ensures is { result.0 ≡ holding_of self.shards }
+        ensures parts { HasParts self.parts result.0 }
+        ensures pages { result.1 ≡ both_pages (pages_of self.shards) self.pages }
+        ensures count { HasPages self.parts result.1 }
+        ensures passes { result.2 ≡ self.passes }
+    {
+        let LeftTokens {
+            shards,
+            pages,
+            passes,
+            ..
+        } = self;
+        let (shares, mut all) = shards.into_parts();
+        all.merge(pages);
+        (shares, all, passes)
+    }
+
     /// The parts of the ledgers that were not given, and as many pages, of which one may have entries.
     pub fn into_parts(self) -> (Portions<B>, AllPages<B>)
         ensures is { result.0 ≡ holding_of self.shards }
@@ -154,10 +174,8 @@ impl<B: Ledgers + Journals> LeftTokens<B> {
         ensures pages { result.1 ≡ both_pages (pages_of self.shards) self.pages }
         ensures count { HasPages self.parts result.1 }
     {
-        let LeftTokens { shards, pages, .. } = self;
-        let (shares, mut all) = shards.into_parts();
-        all.merge(pages);
-        (shares, all)
+        let (shares, pages, _passes) = self.into_all();
+        (shares, pages)
     }
 
     /// The parts of the ledgers alone.

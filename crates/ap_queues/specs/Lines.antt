@@ -21,16 +21,16 @@ pub record ArePassesOf (queues : List EventQueue) (left : LinePasses) : Type 0 w
   pub workers : Rows MayTake queues left.workers.items
 
 -- each queue has given this many operators their handles
-abbrev pub HaveMade : ℕ → LinePasses → Type 0
-HaveMade n left = (queue : ℕ) (m : PassMaker) → slice_get left.makers.items queue ≡ Some m → m.made ≡ n
+pub record HaveMade (n : ℕ) (left : LinePasses) : Type 0 where
+  pub each : (queue : ℕ) (m : PassMaker) → slice_get left.makers.items queue ≡ Some m → m.made ≡ n
 
 -- each queue has given one operator more its handle, if each had given as many
-abbrev pub MakesOneMore : LinePasses → LinePasses → Type 0
-MakesOneMore l l2 = (n : ℕ) → HaveMade n l → HaveMade (n + 1) l2
+pub record MakesOneMore (l l2 : LinePasses) : Type 0 where
+  pub grown : (n : ℕ) → HaveMade n l → HaveMade (n + 1) l2
 
 -- each queue has given as many operators their handles as before, if each had given as many
-abbrev pub MakesNoMore : LinePasses → LinePasses → Type 0
-MakesNoMore l l2 = (n : ℕ) → HaveMade n l → HaveMade n l2
+pub record MakesNoMore (l l2 : LinePasses) : Type 0 where
+  pub kept : (n : ℕ) → HaveMade n l → HaveMade n l2
 
 -- for each of these queues a handle that puts
 abbrev pub AreLinesOf : List EventQueue → OperatorLines → Type 0

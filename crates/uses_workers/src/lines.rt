@@ -2,7 +2,7 @@
 
 ghost use Rattle.std.specs.Prelude.{◌≡◌, ◌<◌, length};
 ghost use Rattle.ap_queues.specs.Passes.{IsWorkerOf};
-ghost use Rattle.ap_queues.specs.Lines.{ArePassesOf, AreLinesOf};
+ghost use Rattle.ap_queues.specs.Lines.{ArePassesOf, AreLinesOf, HaveMade};
 
 use crate::same::{holds, same};
 use ap_model::{Event, Octets};
@@ -90,6 +90,7 @@ fn opened(rt: &impl Abort, alloc: Global, workers: usize) -> (EventLines, LinePa
     requires { 0 < workers }
     ensures workers { length result.0 ≡ workers }
     ensures own { ArePassesOf result.0 result.1 }
+    ensures unmade { HaveMade 0 result.1 }
 {
     EventLines::open(alloc, workers).expect(rt, "queues")
 }
@@ -132,6 +133,22 @@ fn a_tick_goes_on_where_a_queue_was_full(rt: HostRuntime) {
     holds(&rt, answer.is_ok(), "the rest of the tick");
     holds(&rt, has(&rt, lines.queue(0), &mut even, 4), "even shards");
     holds(&rt, has(&rt, lines.queue(1), &mut odd, 4), "odd shards");
+}
+
+#[test]
+fn a_lone_operator_meets_a_worker(rt: HostRuntime) {
+    let (lines, mut left) = opened(&rt, rt.alloc(), 2);
+    let mut operator = lines
+        .operator(rt.alloc(), &mut left)
+        .expect(&rt, "an operator");
+    let mut odd = lines.worker(&mut left, 1).expect(&rt, "a worker");
+    let is_put = put_frames(&rt, rt.alloc(), &lines, &mut operator, 3);
+    holds(&rt, is_put, "three frames");
+    holds(&rt, has(&rt, lines.queue(1), &mut odd, 3), "the frames");
+    lines.meet_alone(1, &mut odd, &mut operator, &mut left);
+    let is_put = put_frames(&rt, rt.alloc(), &lines, &mut operator, 2);
+    holds(&rt, is_put, "two more");
+    holds(&rt, has(&rt, lines.queue(1), &mut odd, 2), "and no other");
 }
 
 #[test]

@@ -1,5 +1,6 @@
 //! A queue with its operators and its worker, on one thread and on two.
 
+ghost use Rattle.std.specs.Prelude.{◌≡◌, ◌+◌};
 ghost use Rattle.ap_queues.specs.Passes.{IsMakerOf, IsOperatorOf, IsWorkerOf};
 
 use crate::same::{holds, same};
@@ -102,6 +103,7 @@ fn count_operators(queue: &EventQueue, maker: &mut PassMaker) -> u32
 fn opened(rt: &impl Abort, alloc: Global) -> (EventQueue, PassMaker, WorkerPass)
     ensures maker { IsMakerOf result.0 result.1 }
     ensures worker { IsWorkerOf result.0 result.2 }
+    ensures unmade { result.1.made ≡ 0 }
 {
     EventQueue::open(alloc).expect(rt, "a queue")
 }
@@ -111,6 +113,7 @@ fn operator(rt: &impl Abort, queue: &EventQueue, maker: &mut PassMaker) -> Opera
     requires { IsMakerOf queue.now maker.old }
     ensures maker { IsMakerOf queue.now maker.new }
     ensures operator { IsOperatorOf queue.now result }
+    ensures made { maker.new.made ≡ maker.old.made + 1 }
 {
     queue.operator(maker).expect(rt, "an operator")
 }
@@ -179,6 +182,19 @@ fn operators_keep_their_order(rt: HostRuntime) {
     queue.meet(&mut worker, &mut one);
     take(&rt, &queue, &mut worker, 1, 9);
     take(&rt, &queue, &mut worker, 0, 3);
+}
+
+#[test]
+fn a_lone_operator_put_all_that_was_taken(rt: HostRuntime) {
+    let (queue, mut maker, mut worker) = opened(&rt, rt.alloc());
+    let mut only = operator(&rt, &queue, &mut maker);
+    put(&rt, &queue, &mut only, 5);
+    put(&rt, &queue, &mut only, 3);
+    take(&rt, &queue, &mut worker, 0, 5);
+    queue.meet_alone(&mut worker, &mut only, &mut maker);
+    put(&rt, &queue, &mut only, 9);
+    take(&rt, &queue, &mut worker, 0, 3);
+    take(&rt, &queue, &mut worker, 0, 9);
 }
 
 #[test]

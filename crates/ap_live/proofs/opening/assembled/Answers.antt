@@ -14,6 +14,7 @@ returns g c =
       list = unloaded ∙ sym (c.entrance.ensures.is ∙ ap newcomer c.requires.readers);
       no_loads = c.requires.empty;
       rest = record { passes = c.requires.places.passes_are; list = sym (ap (λ (b : Beginning). b.list) c.entrance.ensures.is) };
+      unmade = c.requires.places.unmade;
       readers = ap (λ (r : Readers). r.left) c.requires.readers;
       parts = refl;
       shards = c.requires.tokens;

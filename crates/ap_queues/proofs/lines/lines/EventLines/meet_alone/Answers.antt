@@ -19,5 +19,5 @@ pub returns-clause-made : goal.returns-clause-made
 returns-clause-made c =
     let makers : List PassMaker = c.args.left.now.makers.items in
     let low : c.args.number < length makers = omega (arith, c.requires.there, c.requires.left.makers.as_many) in
-    let was = c.requires.alone c.args.number c.index_mut-maker.result.now (found makers c.args.number c.index_mut-maker.result.now low c.index_mut-maker.ensures.value) in
-    made_set 1 makers c.args.number c.meet_alone.new.maker low (c.meet_alone.ensures.made ∙ was) c.requires.alone
+    let was = c.requires.alone.each c.args.number c.index_mut-maker.result.now (found makers c.args.number c.index_mut-maker.result.now low c.index_mut-maker.ensures.value) in
+    record { each = made_set 1 makers c.args.number c.meet_alone.new.maker low (c.meet_alone.ensures.made ∙ was) c.requires.alone.each }

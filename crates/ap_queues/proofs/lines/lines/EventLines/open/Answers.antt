@@ -23,4 +23,4 @@ loop-preserved c = record {
 }
 
 pub returns-clause-unmade : goal.returns-clause-unmade
-returns-clause-unmade c = c.loop.invariant.unmade
+returns-clause-unmade c = record { each = c.loop.invariant.unmade }

@@ -39,8 +39,14 @@ loop-worker-preserved c =
     }
 
 pub returns-clause-made : goal.returns-clause-made
-returns-clause-made c n all at m there =
-    let makers = c.loop-worker.left.makers.items in
-    let within : at < length makers = slice_get_within makers at m there in
-    let below : at < c.loop-worker.worker = omega (arith, within, c.loop-worker-test.false, c.loop-worker.invariant.left.makers.as_many, c.len-worker-end.ensures, ap length c.self.view_is) in
-    c.loop-worker.invariant.made n all at m below there
+returns-clause-made c =
+    record {
+      grown = λ n all. record {
+        each =
+            λ at m there.
+            let makers = c.loop-worker.left.makers.items in
+            let within : at < length makers = slice_get_within makers at m there in
+            let below : at < c.loop-worker.worker = omega (arith, within, c.loop-worker-test.false, c.loop-worker.invariant.left.makers.as_many, c.len-worker-end.ensures, ap length c.self.view_is) in
+            c.loop-worker.invariant.made n all at m below there;
+      };
+    }

@@ -2,7 +2,7 @@ use Rattle.std.proofs.Common.{◌≡◌, ◌+◌, ◌-◌, ◌∙◌, ℕ, ap, a
 use Rattle.ap_shards.specs.Pages.{HasPages}
 use Rattle.ap_live.specs.Tokens.{Left}
 use Rattle.ap_live.proofs.Rest.{new_count}
-use Rattle.ap_live.proofs.tokens.LeftTokens.into_parts.Goals as goal
+use Rattle.ap_live.proofs.tokens.LeftTokens.into_all.Goals as goal
 
 pub returns-clause-count : goal.returns-clause-count
 returns-clause-count g c =
