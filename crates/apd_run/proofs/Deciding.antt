@@ -88,7 +88,7 @@ module _ (config : Config) (a : Live) (worker : ℕ) where
       let m : Progress = r.0 in
       let b = r.1.became in
       let V : Readings → List (Ask × ℕ) → Type 0 = JudgedBy a.stock.maps worker m.seen.loads p.held m.held in
-      let judges : Judges V m.seen.loads = λ readings asked v. are_judged _ m.seen.loads p.held m.held asked v.verdicts in
+      let judges : Judges V m.seen.loads = λ readings asked v. are_judged a worker readings.clock v.stations m.seen.loads p.held m.held asked v.verdicts in
       let e : Event = t.item.event in
       by_shard (λ s. Adds (token_at s m.shards) (deeds_at s ts) (token_at s q.shards) → Adds (token_at s p.shards) (deeds_at s (t ∷ ts)) (token_at s q.shards))
       (adds_one V m.seen.loads judges (rules t.item.shard config) e t.fate (t.item.shard == 0) p.shards.of0 m.shards.of0 q.shards.of0 (deeds_at 0 ts) b.came.of0)
@@ -232,7 +232,7 @@ seen_alike a b h = by_shard (λ s. histories_of a s ≡ histories_of b s) h.0 h.
 pub met_histories : (config : Config) (w o : Eight) → HaveSeenAlike w o → UpholdAll config w → (s : ℕ) → s < 8 → IsHistory s config (histories_of o s)
 met_histories config w o alike up s low =
     let u = up s low in
-    subst (λ (l : List Entry). IsHistory s config l) (seen_alike w o alike s low) (record { readings = u.readings; holds = u.holds })
+    subst (λ (l : List Entry). IsHistory s config l) (seen_alike w o alike s low) (record { readings = u.readings; run = u.holds.run })
 
 pub met_among : (config : Config) (w o : Eight) → HaveSeenAlike w o → UpholdAll config w → (s : ℕ) → s < 8 → IsAmong (token_at s w).own (histories_of o s)
 met_among config w o alike up s low =

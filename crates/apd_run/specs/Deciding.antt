@@ -4,11 +4,10 @@ use Rattle.std.specs.List.{All}
 use Rattle.ap_model.specs.declared.event.Event.{Event}
 use Rattle.ap_model.specs.declared.event.Out.{Out}
 use Rattle.ap_model.specs.Drops.{drops}
-use Rattle.ap_model.specs.Readings.{Config, Readings}
+use Rattle.ap_model.specs.Readings.{Config}
 use Rattle.ap_model.specs.Runs.{Entry}
 use Rattle.ap_core.specs.Handles.{rules}
-use Rattle.ap_laws.specs.Headline.{LinkHolds}
-use Rattle.ap_locked.specs.Tokens.{IsAmong}
+use Rattle.ap_locked.specs.Tokens.{AreHandled, IsAmong}
 use Rattle.ap_queues.specs.Items.{IsTold, Item}
 use Rattle.ap_queues.specs.Passes.{taken_by}
 use Rattle.ap_queues.specs.Queues.{items_of}
@@ -95,10 +94,9 @@ pub record AreEntries (s : ℕ) (events : List Tagged) (history : List Entry) : 
   pub judged : All WasJudged entries
   pub among : IsAmong entries history
 
--- these entries are a run of this shard from nobody on, under this configuration, of which all laws of the link hold
-pub record IsHistory (s : ℕ) (config : Config) (history : List Entry) : Type 0 where
-  pub readings : Readings
-  pub holds : LinkHolds (rules s config) history readings
+-- these entries are a run of the link at this shard from nobody on, under this configuration
+abbrev pub IsHistory : ℕ → Config → List Entry → Type 0
+IsHistory s config history = AreHandled (rules s config) history
 
 -- what these tokens have seen of each shard
 abbrev pub histories_of : Eight → ℕ → List Entry

@@ -206,7 +206,8 @@ impl<'a, B: Ledgers + Journals, L: Names, F: Files> LiveOperator<'a, B, L, F> {
         ensures took { TookOf (work_of F.held self.new).puts worker.new.token }
     {
         let token = &mut *self.token;
-        self.ap.meet_alone(&mut worker.token, token, &mut self.passes);
+        self.ap
+            .meet_alone(&mut worker.token, token, &mut self.passes);
     }
 
     /// Meets a worker: the operator then knows all that the worker decided, in the one history of each shard. Does nothing
@@ -322,9 +323,8 @@ fn waiting_for(unserved: Unserved) -> Waiting
     Waiting { event, shard }
 }
 
-impl<'a, B: Ledgers + Journals, L: Names, F: Files, G: Drop> Operating<
-    LiveWorker<'a, B, L, G>,
-> for LiveOperator<'a, B, L, F> {
+impl<'a, B: Ledgers + Journals, L: Names, F: Files, G: Drop> Operating<LiveWorker<'a, B, L, G>>
+    for LiveOperator<'a, B, L, F> {
     ghost use Rattle.ap_live.specs.Counting.{counted_by};
     ghost use Rattle.apd_run.specs.Hands.{crew_of};
     ghost use Rattle.apd_run.specs.Work.{live};

@@ -34,8 +34,7 @@ impl<'a, B: Ledgers + Journals, L: Names, G: Drop> Model for LiveWorker<'a, B, L
         (record { ap = w.ap.now; number = w.number; given = w.given; token = w.token; handled = w.handled.items }) };
 }
 
-impl<'a, B: Ledgers + Journals, L: Names, G: Gate + Drop> Serving
-    for LiveWorker<'a, B, L, G> {
+impl<'a, B: Ledgers + Journals, L: Names, G: Gate + Drop> Serving for LiveWorker<'a, B, L, G> {
     ghost use Rattle.ap_live.specs.Counting.{counted_by};
 
     ghost counted = { λ w. counted_by w.token.shards };
