@@ -17,11 +17,11 @@ use Rattle.apd_run.specs.InForce.{AreInForce}
 use Rattle.ap_queues.specs.Lines.{puts_of}
 use Rattle.ap_queues.specs.declared.lines.passes.LinePasses.{LinePasses}
 use Rattle.apd_run.specs.Dealing.{AreRest}
-use Rattle.apd_driver.specs.Crews.{Crew}
+use Rattle.apd_driver.specs.Crews.{Crew, with_work}
 use Rattle.apd_files.specs.Held.{Held}
 use Rattle.bpf_verifier.specs.declared.limit.Limits.{Limits}
 use Rattle.apd_run.specs.Deciding.{Accounts, histories_of}
-use Rattle.apd_run.specs.Work.{Work, live}
+use Rattle.apd_run.specs.Work.{Work, live, with_taken}
 use Rattle.apd_run.specs.declared.access.program_counts.ProgramCounts.{ProgramCounts}
 
 -- a worker's access point, number and token, how many items it had taken before the operator last took over its counts, and
@@ -88,3 +88,7 @@ work_of held o =
 -- how many workers have rights, what those that came back have counted, and what the operator has done
 abbrev pub crew_of : {F : Type 0} → (F → Held) → RunOperator F → Crew live
 crew_of held o = record { workers = o.workers; counted = sum_of o.hoard; work = work_of held o }
+
+-- what became of this many more items of a worker's queue was taken over
+abbrev pub claims : Crew live → ℕ → ℕ → Crew live
+claims crew worker many = with_work crew (with_taken crew.work worker many)

@@ -7,7 +7,7 @@ ghost use Rattle.ap_live.specs.Counting.{counted_by, tally};
 ghost use Rattle.versions.specs.Sets.{set_of};
 ghost use Rattle.hook_judge.specs.Sums.{no_counts};
 ghost use Rattle.apd_run.specs.InForce.{budget_shown, budgets_of, row_shown, rows_of, with_counts};
-ghost use Rattle.apd_run.specs.Hands.{crew_of, work_of};
+ghost use Rattle.apd_run.specs.Hands.{claims, crew_of, work_of};
 ghost use Rattle.apd_run.specs.Deciding.{Accounts, TookOf};
 ghost use Rattle.apd_run.specs.Work.{Does, IsWord, Meets};
 ghost use Rattle.apd_script.specs.Asked.{Adopt, Load, Unload};
@@ -223,21 +223,29 @@ impl<'a, B: Ledgers + Journals, L: Names, F: Files> LiveOperator<'a, B, L, F> {
     }
 
     /// Takes over a worker's counts, also those of the runs of its programs, gives it fresh parts of the ledgers, and
-    /// returns what became of its events, with which it has given `given`.
+    /// returns what became of its events.
     fn exchange<G: Drop>(
         &mut self,
         worker: &mut LiveWorker<'a, B, L, G>,
-        given: u64,
-    ) -> Vec<Tagged>
-        requires given { given ≡ worker.old.given + length worker.old.handled }
-        ensures crew { crew_of F.held self.new ≡ gains (crew_of F.held self.old) (tally result.items) }
-        ensures accounts { Accounts worker.old.given worker.old.token result.items }
-        ensures given { length result.items ≡ length worker.old.handled }
-        ensures programs { self.new.programs
-            ≡ with_counts self.old.programs worker.old.token.held.counts }
-        ensures worker { counted_by worker.new.token.shards ≡ none }
-        ensures anew { worker.new.token.held.counts ≡ no_counts }
+    ) -> Result<Vec<Tagged>, AllocError>
+        ensures crew { IfOk result (λ handled. crew_of F.held self.new
+            ≡ gains (claims (crew_of F.held self.old) worker.old.number (length handled.items))
+            (tally handled.items)) }
+        ensures number { OnOk result (worker.old.number ≡ worker.old.token.number) }
+        ensures below { OnOk result (worker.old.number
+            < length (work_of F.held self.old).taken) }
+        ensures agrees { OnOk result (slice_index_or (work_of F.held self.old).taken
+            worker.old.number 0 ≡ worker.old.given) }
+        ensures accounts { IfOk result
+            (λ handled. Accounts worker.old.given worker.old.token handled.items) }
+        ensures programs { OnOk result (self.new.programs
+            ≡ with_counts self.old.programs worker.old.token.held.counts) }
+        ensures worker { OnOk result (counted_by worker.new.token.shards ≡ none) }
+        ensures anew { OnOk result (worker.new.token.held.counts ≡ no_counts) }
     {
+        let many = worker.handled.len() as u64;
+        let given = claim(&mut self.taken, worker.number, worker.given, many)?;
+        worker.given = given;
         let runs = worker.token.take_counts();
         self.programs.add(&runs);
         let handled = mem::replace(&mut worker.handled, Vec::new(worker.alloc));
@@ -246,8 +254,7 @@ impl<'a, B: Ledgers + Journals, L: Names, F: Files> LiveOperator<'a, B, L, F> {
         let counted = worker.token.renew(fresh);
         self.hoard.merge(counted);
         self.totals = self.totals.and(numbers);
-        worker.given = given;
-        handled
+        Ok(handled)
     }
 
     /// Tells a worker of the loads so far.
@@ -413,9 +420,7 @@ impl<'a, B: Ledgers + Journals, L: Names, F: Files, G: Drop> Operating<LiveWorke
     ) -> Result<(), AllocError> {
         self.meet_at_queue(worker);
         self.meet(worker);
-        let many = worker.handled.len() as u64;
-        let given = claim(&mut self.taken, worker.number, worker.given, many)?;
-        let handled = self.exchange(worker, given);
+        let handled = self.exchange(worker)?;
         self.tell(worker);
         report_all(reports, handled)?;
         Ok(())
