@@ -14,3 +14,10 @@ returns-clause-looks g c =
       works = works g.F.Files.held _ _ _ c.self.view_is;
       looks = AtRows _ _ (sees_more g.F.Files.held _ _ c.agreements.new.operator _ c.self.view_is c.deref_mut.ensures.value c.agreements.ensures.same c.agreements.ensures.own);
     }
+
+pub returns-in_err-agreements-clause-looks : goal.returns-in_err-agreements-clause-looks
+returns-in_err-agreements-clause-looks g c =
+    record {
+      works = works g.F.Files.held _ _ _ c.self.view_is;
+      looks = AtRows _ _ (sees_more g.F.Files.held _ _ c.agreements.new.operator _ c.self.view_is c.deref_mut.ensures.value c.agreements.ensures.same c.agreements.ensures.own);
+    }

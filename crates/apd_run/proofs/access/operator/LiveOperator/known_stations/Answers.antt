@@ -15,3 +15,10 @@ returns-clause-looks g c =
       works = works g.F.Files.held _ _ _ c.self.view_is;
       looks = AtRows _ _ (sees_more g.F.Files.held _ _ c.known_stations.new.operator _ c.self.view_is c.deref_mut.ensures.value c.known_stations.ensures.same c.known_stations.ensures.own);
     }
+
+pub returns-in_err-known-clause-looks : goal.returns-in_err-known-clause-looks
+returns-in_err-known-clause-looks g c =
+    record {
+      works = works g.F.Files.held _ _ _ c.self.view_is;
+      looks = AtRows _ _ (sees_more g.F.Files.held _ _ c.known_stations.new.operator _ c.self.view_is c.deref_mut.ensures.value c.known_stations.ensures.same c.known_stations.ensures.own);
+    }
