@@ -33,7 +33,7 @@ use Rattle.apd_eval.specs.Follows.{Chosen, is_received, Stays, FrameComes, Follo
 use Rattle.apd_eval.specs.Leading.{Leads, Happens}
 use Rattle.apd_eval.specs.Rulings.{Heard, GivesMetered, IsRuling, GivesRuling}
 use Rattle.apd_eval.specs.declared.ruling.Ruling.{Ruling}
-use Rattle.apd_eval.specs.declared.follow.Row.{Row}
+use Rattle.apd_eval.specs.declared.row.Row.{Row}
 use Rattle.apd_eval.specs.declared.tried.Policy.{Policy}
 
 not_cons : {A : Type 0} (x : A) (xs : List A) → [] ≡ x ∷ xs → ⊥
@@ -173,6 +173,12 @@ there all front rest packet is =
     let long = length-append front (packet ∷ rest) in
     subst P (sym is) (slice_get-get_or (front ++ packet ∷ rest) (length front) packet (omega (arith, long)) ∙ ap Some (get_or-append_seam front packet rest packet))
 
+-- the frame of a packet with its number
+pub at_number : (all front rest : List Seen) (packet : Seen) (number : ℕ) → all ≡ front ++ packet ∷ rest → number ≡ length front + 1 → frame_at all number ≡ received packet.frame
+at_number all front rest packet number is counted =
+    let index : number - 1 ≡ length front = omega (arith, counted) in
+    ap (λ k. frame_in (slice_get all k)) index ∙ ap frame_in (there all front rest packet is)
+
 -- time asks nothing
 no_tick : (p : Policy) (n : ℕ) (counts counts' : List ℕ) (last : Option Ruling) → IsLastOf p (event.Tick n) counts last counts' → counts' ≡ counts
 no_tick p n counts counts' None same = same
@@ -254,8 +260,7 @@ module _ (once : StepsAskOnce) (p : Policy) (alone : IsAlone p) (all : List Seen
       let more : List Row = follows.3 in
       let comes = follows.4 in
       let now : ℕ = unit_of start packet.time in
-      let index : number - 1 ≡ length front = omega (arith, counted) in
-      let frame : frame_at all number ≡ received packet.frame = ap (λ k. frame_in (slice_get all k)) index ∙ ap frame_in (there all front rest packet is) in
+      let frame : frame_at all number ≡ received packet.frame = at_number all front rest packet number is counted in
       let passed : comes.held.counts ≡ h.counts = time_passes clock now comes.tick shards h comes.between comes.held (nat_lt clock now) comes.time in
       let one = packet_asked packet.frame number last comes.between comes.held between held frame comes.comes in
       let first : AreAsked p all h.counts (rows_of p.hook number last) held.counts = subst (λ (c : List ℕ). AreAsked p all c (rows_of p.hook number last) held.counts) passed one in

@@ -1,29 +1,13 @@
--- The changes among contrasts, one contrast after another.
-use Rattle.std.proofs.Common.{◌≡◌, ◌++◌, ◌∷◌, List, [], refl, sym, subst, append_assoc, append-nil}
+-- The changes among contrasts.
+use Rattle.std.proofs.Common.{◌≡◌, ◌++◌, ◌∷◌, List, [], refl}
 use Rattle.std.specs.Prelude.{◌↔◌}
 use Rattle.apd_eval.specs.Changes.{Agrees, AllAgree, AreChanges, NoQuery, Same, Differs}
 use Rattle.apd_eval.specs.declared.again.Contrast.{Contrast}
 
--- the changes so far, and those of the remaining contrasts, are those of all
-abbrev pub Collects : List Contrast → List Contrast → List Contrast → Type 0
-Collects all rest changes = (more : List Contrast) → AreChanges rest more → AreChanges all (changes ++ more)
-
-pub Collects-start : (all : List Contrast) → Collects all all []
-Collects-start all = λ more h. h
-
-pub Collects-same : (all : List Contrast) (c : Contrast) (rest changes : List Contrast) → Collects all (c ∷ rest) changes → Agrees c → Collects all rest changes
-Collects-same all c rest changes collects agrees = λ more h. collects more (Same c rest more agrees h)
-
-pub Collects-differs : (all : List Contrast) (c : Contrast) (rest changes : List Contrast) → Collects all (c ∷ rest) changes → (Agrees c → ⊥) → Collects all rest (changes ++ c ∷ [])
-Collects-differs all c rest changes collects differs = λ more h.
-    let P : List Contrast → Type 0 = AreChanges all in
-    subst P (sym (append_assoc changes (c ∷ []) more)) (collects (c ∷ more) (Differs c rest more differs h))
-
-pub Collects-end : (all rest changes : List Contrast) → Collects all rest changes → rest ≡ [] → AreChanges all changes
-Collects-end all rest changes collects none =
-    let P : List Contrast → Type 0 = AreChanges all in
-    let Q : List Contrast → Type 0 = λ l. Collects all l changes in
-    subst P (append-nil changes) (subst Q none collects [] NoQuery)
+pub AreChanges-append : {contrasts changes more others : List Contrast} → AreChanges contrasts changes → AreChanges more others → AreChanges (contrasts ++ more) (changes ++ others)
+AreChanges-append NoQuery later = later
+AreChanges-append {more = more} {others = others} (Same c contrasts changes agrees are) later = Same c (contrasts ++ more) (changes ++ others) agrees (AreChanges-append are later)
+AreChanges-append {more = more} {others = others} (Differs c contrasts changes differs are) later = Differs c (contrasts ++ more) (changes ++ others) differs (AreChanges-append are later)
 
 not_nil : (c : Contrast) (changes : List Contrast) → c ∷ changes ≡ [] → ⊥
 not_nil c changes = λ (none : c ∷ changes ≡ []). cc

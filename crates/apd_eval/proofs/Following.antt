@@ -1,34 +1,39 @@
--- A capture is followed packet by packet.
-use Rattle.std.proofs.Common.{◌≡◌, ◌+◌, ◌++◌, ◌∷◌, ℕ, List, [], Option, max, refl, sym, subst, append_assoc, append-nil}
+-- A capture is followed packet by packet, and its rows are taken as they come.
+use Rattle.std.proofs.Common.{◌≡◌, ◌+◌, ◌++◌, ◌∷◌, ℕ, List, [], Option, max, refl, subst}
 use Rattle.apd_eval.specs.Metered.{Metered}
 use Rattle.capture.specs.Packets.{Seen}
 use Rattle.ap_core.specs.declared.shard.Shard.{Shard}
 use Rattle.apd_policies.specs.Script.{unit_of}
+use Rattle.apd_eval.specs.Again.{frame_at}
 use Rattle.apd_eval.specs.Follows.{PacketComes, Follows, rows_of}
+use Rattle.apd_eval.specs.Taken.{TakesAll}
 use Rattle.apd_eval.specs.declared.ruling.Ruling.{Ruling}
-use Rattle.apd_eval.specs.declared.follow.Row.{Row}
+use Rattle.apd_eval.specs.declared.row.Row.{Row}
 use Rattle.apd_eval.specs.declared.tried.Policy.{Policy}
+use Rattle.apd_eval.proofs.Taking.{TakesAll-append}
 
-module _ (p : Policy) (start : ℕ) where
-  -- what follows from here on makes what was asked for, after these rows
-  abbrev pub Makes : (List Row → List Shard → Metered → Type 0) → ℕ → ℕ → List Shard → Metered → List Seen → List Row → Type 0
-  Makes G number clock shards h packets rows =
-      (rest : List Row) (shards' : List Shard) (h' : Metered) → Follows p start number clock shards h packets rest shards' h' → G (rows ++ rest) shards' h'
+module _ {S : Type 0} (takes : S → Row → List ℕ → S → Type 0) (p : Policy) (start : ℕ) (all : List Seen) where
+  -- the packets from here on are followed, and their rows are taken
+  abbrev pub Goes : ℕ → ℕ → List Shard → Metered → S → List Seen → List Shard → Metered → S → Type 0
+  Goes number clock shards h s packets shards' h' t =
+      (rows : List Row) × Follows p start number clock shards h packets rows shards' h' × TakesAll takes (frame_at all) s rows t
 
-  pub Makes-start : (G : List Row → List Shard → Metered → Type 0) (number clock : ℕ) (shards : List Shard) (h : Metered) (packets : List Seen)
-      → ((rest : List Row) (shards' : List Shard) (h' : Metered) → Follows p start number clock shards h packets rest shards' h' → G rest shards' h') → Makes G number clock shards h packets []
-  Makes-start G number clock shards h packets all = all
+  -- what goes on from here makes what was asked for
+  abbrev pub Makes : (List Shard → Metered → S → Type 0) → ℕ → ℕ → List Shard → Metered → S → List Seen → Type 0
+  Makes G number clock shards h s packets = (shards' : List Shard) (h' : Metered) (t : S) → Goes number clock shards h s packets shards' h' t → G shards' h' t
 
-  pub Makes-more : (G : List Row → List Shard → Metered → Type 0) (number clock : ℕ) (shards between : List Shard) (h held : Metered) (packet : Seen) (packets : List Seen) (rows : List Row) (last : Option Ruling)
-      → Makes G number clock shards h (packet ∷ packets) rows → PacketComes p clock (unit_of start packet.time) packet.frame last shards h between held
-      → Makes G (number + 1) (max clock (unit_of start packet.time)) between held packets (rows ++ rows_of p.hook number last)
-  Makes-more G number clock shards between h held packet packets rows last makes comes = λ rest shards' h' follows.
-      let P : List Row → Type 0 = λ all. G all shards' h' in
-      subst P (sym (append_assoc rows (rows_of p.hook number last) rest)) (makes (rows_of p.hook number last ++ rest) shards' h' (last, between, held, rest, comes, refl, follows))
+  pub Makes-more : (G : List Shard → Metered → S → Type 0) (number clock : ℕ) (shards between : List Shard) (h held : Metered) (s mid : S) (packet : Seen) (packets : List Seen) (last : Option Ruling)
+      → Makes G number clock shards h s (packet ∷ packets) → PacketComes p clock (unit_of start packet.time) packet.frame last shards h between held
+      → TakesAll takes (frame_at all) s (rows_of p.hook number last) mid → Makes G (number + 1) (max clock (unit_of start packet.time)) between held mid packets
+  Makes-more G number clock shards between h held s mid packet packets last makes comes one = λ shards' h' t goes.
+      makes shards' h' t (
+        rows_of p.hook number last ++ goes.0,
+        (last, between, held, goes.0, comes, refl, goes.1),
+        TakesAll-append takes (frame_at all) (rows_of p.hook number last) goes.0 s mid t one goes.2,
+      )
 
-  pub Makes-end : (G : List Row → List Shard → Metered → Type 0) (number clock : ℕ) (shards : List Shard) (h : Metered) (packets : List Seen) (rows : List Row)
-      → Makes G number clock shards h packets rows → packets ≡ [] → G rows shards h
-  Makes-end G number clock shards h packets rows makes none =
-      let Q : List Seen → Type 0 = λ l. Makes G number clock shards h l rows in
-      let P : List Row → Type 0 = λ all. G all shards h in
-      subst P (append-nil rows) (subst Q none makes [] shards h (refl, refl, refl))
+  pub Makes-end : (G : List Shard → Metered → S → Type 0) (number clock : ℕ) (shards : List Shard) (h : Metered) (s : S) (packets : List Seen)
+      → Makes G number clock shards h s packets → packets ≡ [] → G shards h s
+  Makes-end G number clock shards h s packets makes none =
+      let Q : List Seen → Type 0 = λ l. Makes G number clock shards h s l in
+      subst Q none makes shards h s ([], (refl, refl, refl), refl)

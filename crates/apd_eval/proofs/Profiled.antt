@@ -23,7 +23,7 @@ use Rattle.apd_eval.specs.Profile.{IsRunOn, AreRuns, steps_at, is_json, IsFormed
 use Rattle.apd_eval.specs.Rulings.{GivesMetered}
 use Rattle.apd_eval.specs.Sums.{sums_text}
 use Rattle.apd_eval.specs.Visits.{counted, ticked, times}
-use Rattle.apd_eval.specs.declared.follow.Row.{Row}
+use Rattle.apd_eval.specs.declared.row.Row.{Row}
 use Rattle.apd_eval.specs.declared.profiling.ProfileForm.{ProfileForm}
 use Rattle.apd_eval.specs.declared.ruling.Ruling.{Ruling}
 use Rattle.apd_eval.specs.declared.tried.Policy.{Policy}

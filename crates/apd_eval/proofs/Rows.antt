@@ -1,8 +1,5 @@
 -- The rows of a capture, from their parts.
-use Rattle.std.proofs.Common.{◌≡◌, ◌==◌, ℕ, true, false, List, [], Some, None, Result, IfOk, Vec, refl, subst, ap, sym, ◌∙◌}
-use Rattle.std.proofs.lemmas.Result.{IfOk-weaker}
-use Rattle.std.specs.declared.alloc.AllocError.{AllocError}
-use Rattle.std.specs.declared.alloc.Global.{Global}
+use Rattle.std.proofs.Common.{◌≡◌, ◌==◌, ℕ, true, false, List, [], Some, None, refl, subst, ap, sym, ◌∙◌}
 use Rattle.apd_eval.specs.Metered.{Metered}
 use Rattle.bpf_regions.specs.declared.hooks.Hook.{Hook}
 use Rattle.bpf_regions.specs.declared.hooks.Hook.TheVariants.{Association, Addba, Data}
@@ -13,11 +10,9 @@ use Rattle.capture.specs.Packets.{Seen}
 use Rattle.ap_model.specs.Readings.{Config}
 use Rattle.program_judge.specs.Programs.{Programs, no_programs, program_at, replaced}
 use Rattle.apd_eval.specs.Asked.{IsAlone, IsFollowed}
-use Rattle.apd_eval.specs.Again.{AreContrasts}
-use Rattle.apd_eval.specs.Compared.{AreJudgedAgain}
-use Rattle.apd_eval.specs.Evaluated.{IsJudged, IsEvaluated}
-use Rattle.apd_eval.specs.declared.again.Contrast.{Contrast}
-use Rattle.apd_eval.specs.declared.follow.Row.{Row}
+use Rattle.apd_eval.specs.Evaluated.{IsJudged}
+use Rattle.apd_eval.specs.Taken.{AreTaken, IsHandedOn}
+use Rattle.apd_eval.specs.declared.row.Row.{Row}
 use Rattle.apd_eval.specs.declared.tried.Policy.{Policy}
 
 not_both : true ≡ false → ⊥
@@ -65,22 +60,11 @@ is_judged v draw config packets p first last counts rows hook programs drawn fro
   followed = followed;
 }
 
-pub evaluated : (v : Verified) (draw : ℕ) (config : Config) (packets : List Seen) (p : Policy) (first last : Metered) (r : Result (Vec Row Global) AllocError) → p.hook ≡ v.hook
-    → p.programs.now ≡ replaced v.hook (no_programs v.code.shapes) (Some v) → first.held.draw ≡ draw → first.counts ≡ []
-    → IfOk r (λ rows. IsFollowed p config packets first rows.items last) → IfOk r (λ rows. IsEvaluated v draw config packets rows.items)
-evaluated v draw config packets p first last r hook programs drawn from followed =
-    IfOk-weaker r (λ rows. IsFollowed p config packets first rows.items last) (λ rows. IsEvaluated v draw config packets rows.items)
-    (λ rows f. (last.counts, is_judged v draw config packets p first last [] rows.items hook programs drawn from f)) followed
-
--- the contrasts of rows, from their parts
-pub judged : (v : Verified) (draw : ℕ) (packets : List Seen) (rows : List Row) (p : Policy) (h h' : Metered) (r : Result (Vec Contrast Global) AllocError) → p.programs.now ≡ replaced v.hook (no_programs v.code.shapes) (Some v)
-    → h.held.draw ≡ draw → IfOk r (λ contrasts. AreContrasts p packets h rows contrasts.items h') → IfOk r (λ contrasts. AreJudgedAgain v draw packets rows contrasts.items)
-judged v draw packets rows p h h' r programs drawn again =
-    IfOk-weaker r (λ contrasts. AreContrasts p packets h rows contrasts.items h') (λ contrasts. AreJudgedAgain v draw packets rows contrasts.items) (λ contrasts a. record {
-      policy = p;
-      programs = programs;
-      held = h;
-      drawn = drawn;
-      held' = h';
-      again = a;
-    }) again
+-- the rows of such a program, as they are taken
+pub are_taken : {S : Type 0} (takes : S → Row → List ℕ → S → Type 0) (v : Verified) (draw : ℕ) (config : Config) (packets : List Seen) (p : Policy) (first last : Metered) (s t : S) → p.hook ≡ v.hook
+    → p.programs.now ≡ replaced v.hook (no_programs v.code.shapes) (Some v) → first.held.draw ≡ draw → first.counts ≡ [] → IsHandedOn takes p config packets first s last t → AreTaken takes v draw config packets s t
+are_taken takes v draw config packets p first last s t hook programs drawn from on = record {
+  rows = on.rows;
+  evaluated = (last.counts, is_judged v draw config packets p first last [] on.rows hook programs drawn from on.followed);
+  taken = on.taken;
+}

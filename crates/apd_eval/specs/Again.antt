@@ -8,7 +8,7 @@ use Rattle.ap_model.specs.Asks.{Ask}
 use Rattle.apd_eval.specs.Follows.{is_received}
 use Rattle.apd_eval.specs.Rulings.{IsRuling}
 use Rattle.apd_eval.specs.declared.ruling.Ruling.{Ruling}
-use Rattle.apd_eval.specs.declared.follow.Row.{Row}
+use Rattle.apd_eval.specs.declared.row.Row.{Row}
 use Rattle.apd_eval.specs.declared.tried.Policy.{Policy}
 use Rattle.apd_eval.specs.declared.again.Contrast.{Contrast}
 
@@ -26,9 +26,17 @@ frame_in (Some packet) = received packet.frame
 abbrev pub frame_at : List Seen → ℕ → List ℕ
 frame_at packets number = frame_in (slice_get packets (number - 1))
 
+-- a query about this frame, with the hook and the context of a row
+abbrev pub ask_of : Row → List ℕ → Ask
+ask_of row frame = record { hook = row.ruling.hook; frame = frame; context = row.ruling.context }
+
 -- the query of a row: its hook and context, and the packet's frame
 abbrev pub query_of : List Seen → Row → Ask
-query_of packets row = record { hook = row.ruling.hook; frame = frame_at packets row.packet; context = row.ruling.context }
+query_of packets row = ask_of row (frame_at packets row.packet)
+
+-- the rulings on such a query
+abbrev pub contrast_of : Row → Ruling → Contrast
+contrast_of row ruling = record { packet = row.packet; in_force = row.ruling; tried = ruling }
 
 -- what other programs read then: their own maps, and the clock and the stations of the row
 abbrev pub read_at : Policy → Row → Given

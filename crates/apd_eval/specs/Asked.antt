@@ -17,7 +17,7 @@ use Rattle.apd_eval.specs.Again.{query_of}
 use Rattle.apd_eval.specs.Follows.{Follows}
 use Rattle.apd_eval.specs.Rulings.{IsRuling}
 use Rattle.apd_eval.specs.declared.ruling.Ruling.{Ruling}
-use Rattle.apd_eval.specs.declared.follow.Row.{Row}
+use Rattle.apd_eval.specs.declared.row.Row.{Row}
 use Rattle.apd_eval.specs.declared.tried.Policy.{Policy}
 
 -- no other hook has a program

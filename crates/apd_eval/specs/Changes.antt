@@ -65,10 +65,19 @@ change_sums hook address packets judged changed false = plain_changes hook addre
 abbrev pub change_heads : List ℕ
 change_heads = codes "packet  station            verdict\n"
 
+-- the line of a change in either form
+abbrev pub change_in : Bool → Contrast → List ℕ
+change_in true c = json_change c
+change_in false c = change_line c
+
+-- what stands before the lines
+abbrev pub change_front : Bool → List ℕ
+change_front true = []
+change_front false = change_heads
+
 -- lines of JSON, or the heads of the columns and the lines of the changes
 abbrev pub change_rows : List Contrast → Bool → List ℕ
-change_rows changes true = lines_of json_change changes
-change_rows changes false = change_heads ++ lines_of change_line changes
+change_rows changes json = change_front json ++ lines_of (change_in json) changes
 
 -- the same, and the sums
 abbrev pub changes_text : List Contrast → List ℕ → Bool → List ℕ

@@ -8,7 +8,7 @@ use Rattle.program_judge.specs.Programs.{no_programs, replaced}
 use Rattle.apd_eval.specs.Evaluated.{IsEvaluated}
 use Rattle.apd_eval.specs.Again.{AreContrasts}
 use Rattle.apd_eval.specs.Changes.{AllAgree, AreChanges, change_sums, changes_text}
-use Rattle.apd_eval.specs.declared.follow.Row.{Row}
+use Rattle.apd_eval.specs.declared.row.Row.{Row}
 use Rattle.apd_eval.specs.declared.again.Contrast.{Contrast}
 use Rattle.apd_eval.specs.declared.tried.Policy.{Policy}
 

@@ -8,7 +8,7 @@ use Rattle.program_judge.specs.Programs.{no_programs, replaced}
 use Rattle.apd_eval.specs.Asked.{IsFollowed}
 use Rattle.apd_eval.specs.Sums.{Judged, sums_text}
 use Rattle.apd_eval.specs.Table.{table_text}
-use Rattle.apd_eval.specs.declared.follow.Row.{Row}
+use Rattle.apd_eval.specs.declared.row.Row.{Row}
 use Rattle.apd_eval.specs.declared.tried.Policy.{Policy}
 
 -- The program is the only one of a new access point, and `draw` is the first number drawn. The rows are its verdicts.

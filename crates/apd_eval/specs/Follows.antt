@@ -10,7 +10,7 @@ use Rattle.ap_core.specs.declared.shard.Shard.{Shard}
 use Rattle.apd_policies.specs.Script.{unit_of}
 use Rattle.apd_eval.specs.Leading.{Happens}
 use Rattle.apd_eval.specs.declared.ruling.Ruling.{Ruling}
-use Rattle.apd_eval.specs.declared.follow.Row.{Row}
+use Rattle.apd_eval.specs.declared.row.Row.{Row}
 use Rattle.apd_eval.specs.declared.tried.Policy.{Policy}
 
 -- nothing happens

@@ -15,3 +15,6 @@ pub mod Changes
 pub mod Compared
 pub mod Profile
 pub mod Repeated
+pub mod Tabled
+pub mod Taken
+pub mod Told

@@ -16,7 +16,7 @@ use Rattle.apd_eval.specs.Evaluated.{IsJudged, judged_by}
 use Rattle.apd_eval.specs.Sums.{sums_text}
 use Rattle.apd_eval.specs.Table.{column}
 use Rattle.apd_eval.specs.Visits.{Passes, times}
-use Rattle.apd_eval.specs.declared.follow.Row.{Row}
+use Rattle.apd_eval.specs.declared.row.Row.{Row}
 use Rattle.apd_eval.specs.declared.profiling.Spot.{Spot}
 use Rattle.apd_eval.specs.declared.ruling.Ruling.{Ruling}
 use Rattle.apd_eval.specs.declared.profiling.ProfileForm.{ProfileForm}

@@ -7,7 +7,7 @@ use Rattle.ap_model.specs.Readings.{Config}
 use Rattle.apd_eval.specs.Evaluated.{IsEvaluated, judged_by}
 use Rattle.apd_eval.specs.Sums.{sums_text}
 use Rattle.apd_eval.specs.Table.{table_text}
-use Rattle.apd_eval.specs.declared.follow.Row.{Row}
+use Rattle.apd_eval.specs.declared.row.Row.{Row}
 use Rattle.apd_eval.specs.declared.repeating.Figures.{Figures}
 
 -- the least of so many durations, and their median; of an even number, the lower of the two in the middle
@@ -40,10 +40,14 @@ json_figures count (Some f) =
     codes "{\"repeats\":" ++ (decimal count ++ (codes ",\"least\":" ++ (decimal f.least
     ++ (codes ",\"median\":" ++ (decimal f.median ++ codes "}\n")))))
 
+-- the figures of so many rows, if there are any
+abbrev pub figures_below : ℕ → ℕ → Option Figures → Bool → List ℕ
+figures_below rows count figures json =
+    (if rows == 0 then [] else (if json then json_figures count figures else figures_line count figures))
+
 -- the figures of rows, if there are any
 abbrev pub figures_text : List Row → ℕ → Option Figures → Bool → List ℕ
-figures_text rows count figures json =
-    (if length rows == 0 then [] else (if json then json_figures count figures else figures_line count figures))
+figures_text rows count figures json = figures_below (length rows) count figures json
 
 -- the table of the program's rows, and below it how long a run took in so many rounds
 pub record IsRepeated (v : Verified) (draw : ℕ) (config : Config) (packets : List Seen) (json : Bool) (count : ℕ) (text : List ℕ) : Type 0 where

@@ -2,7 +2,7 @@
 use Rattle.std.specs.Prelude.{ℕ, ◌-◌, ◌^◌, Bool, true, false, List, [], ◌∷◌, ◌++◌, codes, decimal, slice_index}
 use Rattle.std.specs.Fmt.{digits, padded, padded_integral, format_spec}
 use Rattle.apd_eval.specs.Words.{verdict_of, words_of}
-use Rattle.apd_eval.specs.declared.follow.Row.{Row}
+use Rattle.apd_eval.specs.declared.row.Row.{Row}
 
 -- an octet as two hex digits
 abbrev pub octet_text : ℕ → List ℕ
@@ -42,10 +42,19 @@ lines_of line (x ∷ xs) = line x ++ lines_of line xs
 abbrev pub heads : List ℕ
 heads = codes "packet  station            verdict       steps\n"
 
+-- the line of a row in either form
+abbrev pub line_in : Bool → Row → List ℕ
+line_in true row = json_line row
+line_in false row = row_line row
+
+-- what stands before the lines
+abbrev pub front : Bool → List ℕ
+front true = []
+front false = heads
+
 -- lines of JSON, or the heads of the columns and the lines of the rows
 abbrev pub rows_text : List Row → Bool → List ℕ
-rows_text rows true = lines_of json_line rows
-rows_text rows false = heads ++ lines_of row_line rows
+rows_text rows json = front json ++ lines_of (line_in json) rows
 
 -- the same, and the sums
 abbrev pub table_text : List Row → List ℕ → Bool → List ℕ

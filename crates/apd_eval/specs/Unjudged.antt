@@ -1,5 +1,5 @@
 -- Why packets of a capture weren't judged.
-use Rattle.std.specs.Prelude.{ℕ, ◌-◌, ◌/◌, ◌%◌, ◌==◌, ◌&&◌, ◌||◌, nat_le, nat_lt, Bool, true, false, not, List, [], ◌∷◌, ◌++◌, codes, count_by, decimal, length, slice_index_or, slice_range, Result, Ok, Err, if◌then◌else◌}
+use Rattle.std.specs.Prelude.{ℕ, ◌+◌, ◌≤◌, ◌-◌, ◌/◌, ◌%◌, ◌==◌, ◌&&◌, ◌||◌, nat_le, nat_lt, Bool, true, false, not, List, [], ◌∷◌, ◌++◌, codes, count_by, decimal, length, slice_index_or, slice_range, Result, Ok, Err, if◌then◌else◌}
 use Rattle.std.specs.Str.{bytes_eq}
 use Rattle.bpf_regions.specs.declared.hooks.Hook.{Hook}
 use Rattle.bpf_regions.specs.declared.hooks.Hook.TheVariants.{Association, Addba, Data}
@@ -71,6 +71,30 @@ reasons_of hook address packets judged = record {
   refused = count Unasked hook address packets - judged;
   requests = count Unasked Association address packets;
 }
+
+-- the same while packets come: of none
+abbrev pub no_packets : Reasons
+no_packets = record { missing = 0; other = 0; elsewhere = 0; encrypted = 0; refused = 0; requests = 0 }
+
+-- with one more packet, for this reason, and by the hook of associations for that
+abbrev pub with_packet : Reasons → Reason → Reason → Reasons
+with_packet r reason at_association = record {
+  missing = r.missing + (if is_same reason NoFrame then 1 else 0);
+  other = r.other + (if is_same reason OtherKind then 1 else 0);
+  elsewhere = r.elsewhere + (if is_same reason OtherReceiver then 1 else 0);
+  encrypted = r.encrypted + (if is_same reason Encrypted then 1 else 0);
+  refused = r.refused + (if is_same reason Unasked then 1 else 0);
+  requests = r.requests + (if is_same at_association Unasked then 1 else 0);
+}
+
+-- at most so many packets of each reason
+pub record AreAtMost (n : ℕ) (r : Reasons) : Type 0 where
+  pub missing : r.missing ≤ n
+  pub other : r.other ≤ n
+  pub elsewhere : r.elsewhere ≤ n
+  pub encrypted : r.encrypted ≤ n
+  pub refused : r.refused ≤ n
+  pub requests : r.requests ≤ n
 
 -- what separates a list so far from its next part
 abbrev pub separator : List ℕ → List ℕ

@@ -1,9 +1,8 @@
 //! The verdicts that differ between two programs.
 
-ghost use Rattle.std.specs.Prelude.{◌≡◌, ◌↔◌, ◌++◌, IfOk, [], map, string_bytes, true};
-ghost use Rattle.capture.specs.Packets.{seen_of};
-ghost use Rattle.apd_eval.specs.Changes.{AllAgree, AreChanges, change_line, json_change, both_text, plain_changes, json_both, change_sums, change_rows, changes_text};
-ghost use Rattle.apd_eval.specs.Table.{lines_of};
+ghost use Rattle.std.specs.Prelude.{◌≡◌, ◌≤◌, ◌++◌, IfOk, string_bytes, true};
+ghost use Rattle.capture.specs.Walks.{packets_in};
+ghost use Rattle.apd_eval.specs.Changes.{change_line, json_change, change_in, change_front, both_text, plain_changes, json_both, change_sums};
 
 use crate::again::Contrast;
 use crate::follow::Replay;
@@ -15,7 +14,7 @@ use std::fmt::Write;
 
 /// Two programs on a capture: how many queries of the hook were judged, and how many verdicts differ.
 #[derive(Clone, Copy)]
-pub(crate) struct Comparing<'a> {
+struct Comparing<'a> {
     pub hook: Hook,
     pub replay: Replay<'a>,
     pub judged: usize,
@@ -24,20 +23,6 @@ pub(crate) struct Comparing<'a> {
 
 /// The heads of the columns.
 const HEADS: &str = "packet  station            verdict\n";
-
-/// Those of some contrasts whose verdicts differ, in order.
-pub(crate) fn changes_of(alloc: Global, contrasts: &[Contrast]) -> Result<Vec<Contrast>, AllocError>
-    ensures changes { IfOk result (λ changes. AreChanges contrasts.now changes.items) }
-    ensures equal { IfOk result (λ changes. (changes.items ≡ []) ↔ AllAgree contrasts.now) }
-{
-    let mut changes = Vec::new(alloc);
-    for contrast in contrasts {
-        if !contrast.agrees() {
-            changes.push(*contrast)?;
-        }
-    }
-    Ok(changes)
-}
 
 fn append_line(alloc: Global, text: &mut String, change: &Contrast) -> Result<(), AllocError>
     ensures ok { IfOk result
@@ -69,24 +54,20 @@ fn append_json(alloc: Global, text: &mut String, change: &Contrast) -> Result<()
     Ok(())
 }
 
-fn append_lines(alloc: Global, text: &mut String, changes: &[Contrast]) -> Result<(), AllocError>
-    ensures ok { IfOk result (λ _. string_bytes text.new
-        ≡ string_bytes text.old ++ lines_of change_line changes.now) }
+/// Appends the line of a change, in JSON or not.
+fn append_change(
+    alloc: Global,
+    text: &mut String,
+    change: &Contrast,
+    json: bool,
+) -> Result<(), AllocError>
+    ensures ok { IfOk result
+        (λ _. string_bytes text.new ≡ string_bytes text.old ++ change_in json change.now) }
 {
-    for change in changes {
-        append_line(alloc, text, change)?;
+    if json {
+        return append_json(alloc, text, change);
     }
-    Ok(())
-}
-
-fn append_all_json(alloc: Global, text: &mut String, changes: &[Contrast]) -> Result<(), AllocError>
-    ensures ok { IfOk result (λ _. string_bytes text.new
-        ≡ string_bytes text.old ++ lines_of json_change changes.now) }
-{
-    for change in changes {
-        append_json(alloc, text, change)?;
-    }
-    Ok(())
+    append_line(alloc, text, change)
 }
 
 /// How many verdicts differ, of how many packets.
@@ -104,7 +85,7 @@ fn both_text(
 /// The same, and which packets weren't judged; or why none was.
 fn plain_changes(alloc: Global, course: Comparing<'_>) -> Result<String, AllocError>
     ensures is { IfOk result (λ text. string_bytes text ≡ plain_changes course.entry.hook
-        course.entry.replay.link.now.bssid (map seen_of course.entry.replay.packets.now)
+        course.entry.replay.link.now.bssid (packets_in course.entry.replay.recording.bytes.now)
         course.entry.judged course.entry.changed) }
 {
     let Comparing {
@@ -117,7 +98,8 @@ fn plain_changes(alloc: Global, course: Comparing<'_>) -> Result<String, AllocEr
         return none_text(alloc, hook, replay);
     }
     let mut text = both_text(alloc, judged, replay.count(), changed)?;
-    let others = others_text(alloc, hook, reasons_of(hook, replay, judged))?;
+    let reasons = reasons_of(alloc, hook, replay, judged)?;
+    let others = others_text(alloc, hook, reasons)?;
     text.push_str(others.as_str())?;
     Ok(text)
 }
@@ -137,7 +119,7 @@ fn json_both(
 /// All sums as a line of JSON.
 fn json_changes(alloc: Global, course: Comparing<'_>) -> Result<String, AllocError>
     ensures is { IfOk result (λ text. string_bytes text ≡ change_sums course.entry.hook
-        course.entry.replay.link.now.bssid (map seen_of course.entry.replay.packets.now)
+        course.entry.replay.link.now.bssid (packets_in course.entry.replay.recording.bytes.now)
         course.entry.judged course.entry.changed true) }
 {
     let Comparing {
@@ -147,19 +129,16 @@ fn json_changes(alloc: Global, course: Comparing<'_>) -> Result<String, AllocErr
         changed,
     } = course;
     let mut text = json_both(alloc, judged, replay.count(), changed)?;
-    let rest = json_reasons(alloc, reasons_of(hook, replay, judged))?;
+    let reasons = reasons_of(alloc, hook, replay, judged)?;
+    let rest = json_reasons(alloc, reasons)?;
     text.push_str(rest.as_str())?;
     Ok(text)
 }
 
 /// The sums of a comparison, in JSON or not.
-pub(crate) fn change_sums(
-    alloc: Global,
-    course: Comparing<'_>,
-    json: bool,
-) -> Result<String, AllocError>
+fn change_sums(alloc: Global, course: Comparing<'_>, json: bool) -> Result<String, AllocError>
     ensures is { IfOk result (λ text. string_bytes text ≡ change_sums course.entry.hook
-        course.entry.replay.link.now.bssid (map seen_of course.entry.replay.packets.now)
+        course.entry.replay.link.now.bssid (packets_in course.entry.replay.recording.bytes.now)
         course.entry.judged course.entry.changed json) }
 {
     if json {
@@ -168,31 +147,74 @@ pub(crate) fn change_sums(
     plain_changes(alloc, course)
 }
 
-/// The lines of changes, in JSON or with the heads of their columns.
-fn change_rows(alloc: Global, changes: &[Contrast], json: bool) -> Result<String, AllocError>
-    ensures is { IfOk result (λ text. string_bytes text ≡ change_rows changes.now json) }
+/// What stands before the lines.
+fn front(json: bool) -> &'static str
+    ensures is { result.now ≡ change_front json }
 {
-    if json {
-        let mut text = String::new(alloc);
-        append_all_json(alloc, &mut text, changes)?;
-        return Ok(text);
-    }
-    let mut text = String::from_str(alloc, HEADS)?;
-    append_lines(alloc, &mut text, changes)?;
-    Ok(text)
+    if json { "" } else { HEADS }
 }
 
-/// The same, and the sums.
-pub(crate) fn changes_text(
+/// The changes so far, as contrasts come: their lines, with the heads of their columns or in JSON, how many queries were
+/// judged, and how many verdicts differ.
+#[derive(Drop)]
+pub(crate) struct Changes {
     alloc: Global,
-    changes: &[Contrast],
-    sums: &str,
     json: bool,
-) -> Result<String, AllocError>
-    ensures is { IfOk result
-        (λ text. string_bytes text ≡ changes_text changes.now sums.now json) }
-{
-    let mut text = change_rows(alloc, changes, json)?;
-    text.push_str(sums)?;
-    Ok(text)
+    text: String,
+    pub judged: usize,
+    pub changed: usize,
+    ghost few: { changed ≤ judged },
+}
+
+impl Changes {
+    ghost use Rattle.std.specs.Prelude.{◌≡◌, ◌+◌, ◌<◌, ◌^◌, ◌++◌, IfOk, string_bytes};
+    ghost use Rattle.capture.specs.Walks.{packets_in};
+    ghost use Rattle.apd_eval.specs.Changes.{change_sums};
+    ghost use Rattle.apd_eval.specs.Told.{IsUntold, Tells};
+
+    /// No changes.
+    pub(crate) fn new(alloc: Global, json: bool) -> Result<Changes, AllocError>
+        ensures untold { IfOk result (IsUntold json) }
+    {
+        let text = String::from_str(alloc, front(json))?;
+        Ok(Changes {
+            alloc,
+            json,
+            text,
+            judged: 0,
+            changed: 0,
+        })
+    }
+
+    /// Counts a contrast, and appends the line of a change, if its verdicts differ.
+    pub(crate) fn tell(&mut self, contrast: &Contrast) -> Result<(), AllocError>
+        requires room { self.old.judged + 1 < 2 ^ 64 }
+        ensures told { IfOk result (λ _. Tells self.old contrast.now self.new) }
+    {
+        self.judged += 1;
+        if contrast.agrees() {
+            return Ok(());
+        }
+        append_change(self.alloc, &mut self.text, contrast, self.json)?;
+        self.changed += 1;
+        Ok(())
+    }
+
+    /// The lines of the changes, and the sums.
+    pub(crate) fn finish(self, hook: Hook, replay: Replay<'_>) -> Result<String, AllocError>
+        ensures is { IfOk result (λ text. string_bytes text ≡ string_bytes self.text
+            ++ change_sums hook replay.entry.link.now.bssid
+            (packets_in replay.entry.recording.bytes.now) self.judged self.changed self.json) }
+    {
+        let course = Comparing {
+            hook,
+            replay,
+            judged: self.judged,
+            changed: self.changed,
+        };
+        let sums = change_sums(self.alloc, course, self.json)?;
+        let mut text = self.text;
+        text.push_str(sums.as_str())?;
+        Ok(text)
+    }
 }

@@ -1,16 +1,19 @@
 //! Two programs on a capture.
 
-ghost use Rattle.std.specs.Prelude.{IfOk, map, string_bytes};
-ghost use Rattle.capture.specs.Packets.{seen_of};
-ghost use Rattle.apd_eval.specs.Compared.{AreJudgedAgain, IsComparison};
+ghost use Rattle.std.specs.Prelude.{IfOk, string_bytes};
+ghost use Rattle.bpf_helpers.specs.Hooked.{IsFitting};
+ghost use Rattle.capture.specs.Walks.{packets_in};
+ghost use Rattle.apd_eval.specs.Compared.{IsComparison};
 
-use crate::again::{Contrast, judge_again};
-use crate::changes::{Comparing, change_sums, changes_of, changes_text};
+use crate::again::{Contrast, rule};
+use crate::changes::Changes;
 use crate::evaluating::evaluate;
-use crate::follow::{Replay, Row};
+use crate::follow::Replay;
 use crate::meter::Meter;
+use crate::row::{Row, TakesRows};
 use crate::tried::{Policy, Tried};
 use bpf_machine::Accepted;
+use bpf_regions::Frame;
 use std::alloc::{AllocError, Global};
 
 /// The verdicts that differ between two programs, as lines, and whether there are any.
@@ -20,29 +23,49 @@ pub struct Comparison {
     pub differs: bool,
 }
 
-/// Judges the queries of rows by a program, with maps of its own.
-fn judged_again(
-    alloc: Global,
-    accepted: Accepted,
-    replay: Replay<'_>,
-    rows: &[Row],
-) -> Result<Vec<Contrast>, AllocError>
-    ensures contrasts { IfOk result (λ contrasts. AreJudgedAgain accepted replay.entry.draw
-        (map seen_of replay.entry.packets.now) rows.now contrasts.items) }
-{
-    let hook = accepted.hook();
-    let Tried {
-        programs,
-        tables,
-        state,
-    } = Tried::new(alloc, accepted, replay.draw)?;
-    let mut meter = Meter::new(state, Vec::new(alloc));
-    let policy = Policy {
-        hook,
-        programs: &programs,
-        maps: tables.maps(),
-    };
-    judge_again(alloc, policy, &mut meter, rows, replay.packets)
+/// Programs that judge the queries of rows as these come, with maps of their own, and how their verdicts differ.
+#[derive(Drop)]
+pub(crate) struct Contrasts<'p> {
+    policy: Policy<'p>,
+    meter: Meter,
+    changes: Changes,
+    ghost fitting: { IsFitting policy.maps.now 0 meter.held.seats },
+}
+
+impl<'p> Contrasts<'p> {
+    ghost use Rattle.std.specs.Prelude.{◌≡◌};
+
+    /// Programs, with what they hold at first, and no changes so far.
+    fn new(policy: Policy<'p>, meter: Meter, changes: Changes) -> Contrasts<'p>
+        requires fitting { IsFitting policy.maps.now 0 meter.held.seats }
+        ensures policy { result.policy ≡ policy.entry }
+        ensures meter { result.meter ≡ meter }
+        ensures changes { result.changes ≡ changes }
+    {
+        Contrasts {
+            policy,
+            meter,
+            changes,
+        }
+    }
+}
+
+impl<'a> TakesRows<'a> for Contrasts<'_> {
+    ghost use Rattle.apd_eval.specs.Told.{Contrasted};
+
+    ghost taken = { λ c. c.changes.judged };
+
+    ghost takes = { Contrasted };
+
+    fn take(&mut self, row: &Row, frame: &Frame<'a>) -> Result<(), AllocError> {
+        let tried = rule(self.policy, &mut self.meter, row, frame);
+        let contrast = Contrast {
+            packet: row.packet,
+            in_force: row.ruling,
+            tried,
+        };
+        self.changes.tell(&contrast)
+    }
 }
 
 /// The verdicts of a program that differ from those of the program in force, on the queries of its hook as a capture's
@@ -56,21 +79,25 @@ pub fn compare(
     json: bool,
 ) -> Result<Comparison, AllocError>
     ensures is { IfOk result (λ c. IsComparison in_force tried replay.entry.draw replay.entry.link.now
-        (map seen_of replay.entry.packets.now) json (string_bytes c.text) c.differs) }
+        (packets_in replay.entry.recording.bytes.now) json (string_bytes c.text) c.differs) }
 {
     let hook = in_force.hook();
-    let rows = evaluate(alloc, in_force, replay)?;
-    let contrasts = judged_again(alloc, tried, replay, rows.as_slice())?;
-    let changes = changes_of(alloc, contrasts.as_slice())?;
-    let changed = changes.len();
-    let course = Comparing {
+    let Tried {
+        programs,
+        tables,
+        state,
+    } = Tried::new(alloc, tried, replay.draw)?;
+    let policy = Policy {
         hook,
-        replay,
-        judged: contrasts.len(),
-        changed,
+        programs: &programs,
+        maps: tables.maps(),
     };
-    let sums = change_sums(alloc, course, json)?;
-    let text = changes_text(alloc, changes.as_slice(), sums.as_str(), json)?;
-    let differs = 0 < changed;
+    let meter = Meter::new(state, Vec::new(alloc));
+    let untold = Changes::new(alloc, json)?;
+    let mut contrasts = Contrasts::new(policy, meter, untold);
+    evaluate(alloc, in_force, replay, &mut contrasts)?;
+    let Contrasts { changes, .. } = contrasts;
+    let differs = 0 < changes.changed;
+    let text = changes.finish(hook, replay)?;
     Ok(Comparison { text, differs })
 }

@@ -1,34 +1,29 @@
 //! A capture at an access point whose programs are tried.
 
-ghost use Rattle.std.specs.Prelude.{◌≡◌, ◌≤◌, ◌++◌, IfOk, IfSome, length, map, true};
+ghost use Rattle.std.specs.Prelude.{◌≡◌, ◌≤◌, ◌<◌, ◌+◌, IfOk, length, true};
 ghost use Rattle.bpf_helpers.specs.Hooked.{IsFitting};
 ghost use Rattle.ap_model.specs.AccessPoint.{InPlace};
 ghost use Rattle.ap_core.specs.AccessPoints.{rules_of};
-ghost use Rattle.capture.specs.Packets.{seen_of};
 ghost use Rattle.capture.specs.Radiotap.{bytes_in};
-ghost use Rattle.apd_policies.specs.Script.{start_of};
-ghost use Rattle.apd_eval.specs.Asked.{IsAlone, IsFollowed};
-ghost use Rattle.apd_eval.specs.Follows.{TimePasses, is_received, FrameComes, PacketComes, Follows, rows_of};
+ghost use Rattle.capture.specs.Walks.{packets_in};
+ghost use Rattle.apd_eval.specs.Again.{received};
+ghost use Rattle.apd_eval.specs.Asked.{IsAlone};
+ghost use Rattle.apd_eval.specs.Follows.{TimePasses, is_received, FrameComes, PacketComes, rows_of};
+ghost use Rattle.apd_eval.specs.Taken.{TakesAll, IsHandedOn};
 
 use crate::handling::handle;
 use crate::meter::Meter;
+use crate::row::{Row, TakesRows};
 use crate::ruling::Ruling;
 use crate::tried::Policy;
 use crate::witness::Witness;
 use ap_core::{Event, LinkConfig, Shard, new_shards};
 use ap_laws::asks_law;
 use ap_model::Octets;
-use apd_policies::{start, unit};
-use bpf_regions::Hook;
-use capture::{LeftOut, Packet};
+use apd_policies::{first_time, unit};
+use bpf_regions::{Frame, Hook};
+use capture::{LeftOut, Recording};
 use std::alloc::{AllocError, Global};
-
-/// A query of a packet of a capture, which are counted from 1.
-#[derive(Clone, Copy)]
-pub struct Row {
-    pub packet: usize,
-    pub ruling: Ruling,
-}
 
 /// A packet that comes at the unit `now` of 1024 microseconds, after the unit `clock`.
 #[derive(Clone, Copy)]
@@ -38,20 +33,20 @@ struct Arrival<'a> {
     frame: Result<&'a [u8], LeftOut>,
 }
 
-/// The packets of a capture, for an access point of this configuration. `draw` is the first number that programs draw.
+/// A capture, for an access point of this configuration. `draw` is the first number that programs draw.
 #[derive(Clone, Copy)]
 pub struct Replay<'a> {
     pub link: &'a LinkConfig,
     pub draw: u64,
-    pub packets: &'a [Packet<'a>],
+    pub recording: Recording<'a>,
 }
 
 impl Replay<'_> {
     /// How many packets there are.
     pub(crate) fn count(self) -> usize
-        ensures is { result ≡ length (map seen_of self.entry.packets.now) }
+        ensures is { result ≡ length (packets_in self.entry.recording.bytes.now) }
     {
-        self.packets.len()
+        self.recording.count
     }
 }
 
@@ -132,66 +127,79 @@ fn arrive(
     receive(alloc, shards, policy, state, arrival.frame)
 }
 
-/// Appends the row of a packet, if its last query was of this hook.
-fn append_row(
-    rows: &mut Vec<Row>,
+/// The bytes of a packet's frame, if that is received; otherwise none.
+fn received(frame: Result<&[u8], LeftOut>) -> &[u8]
+    ensures is { result.now ≡ received (bytes_in frame.entry) }
+    ensures short { length result.now ≤ 2400 }
+{
+    match frame {
+        Ok(bytes) => {
+            if is_received(bytes) {
+                return bytes;
+            }
+            return &[];
+        }
+        Err(_) => return &[],
+    }
+}
+
+/// Hands the row of a packet on, if its last query was of this hook.
+fn hand_on<'a, S: TakesRows<'a>>(
+    sink: &mut S,
     hook: Hook,
     packet: usize,
     last: Option<Ruling>,
+    frame: Result<&'a [u8], LeftOut>,
 ) -> Result<(), AllocError>
-    ensures ok { IfOk result (λ _. rows.new.items ≡ rows.old.items ++ rows_of hook packet last) }
+    requires room { S.taken sink.old < packet }
+    ensures taken { IfOk result (λ _. TakesAll S.takes (λ number. received (bytes_in frame.entry))
+        sink.old (rows_of hook packet last) sink.new) }
+    ensures few { IfOk result (λ _. S.taken sink.new ≤ S.taken sink.old + 1) }
 {
-    if let Some(ruling) = last {
-        if ruling.hook.number() == hook.number() {
-            rows.push(Row { packet, ruling })?;
+    let Some(ruling) = last else {
+        return Ok(());
+    };
+    if ruling.hook.number() != hook.number() {
+        return Ok(());
+    }
+    match Frame::new(received(frame)) {
+        Some(frame) => {
+            let row = Row { packet, ruling };
+            sink.take(&row, &frame)
         }
+        None => unreachable!(),
     }
-    Ok(())
 }
 
-/// The rows of packets, one after another, from the first unit on.
-fn rows(
-    alloc: Global,
-    shards: &mut [Shard; 8],
-    policy: Policy<'_>,
-    state: &mut Meter,
-    packets: &[Packet<'_>],
-) -> Result<Vec<Row>, AllocError>
-    requires place { InPlace (rules_of shards.old) }
-    requires fitting { IsFitting policy.maps.now 0 state.old.held.seats }
-    ensures rows { IfOk result (λ rows. Follows policy.entry (start_of (map seen_of packets.now)) 1 0
-        shards.old state.old (map seen_of packets.now) rows.items shards.new state.new) }
-{
-    let mut rows = Vec::new(alloc);
-    let start = start(packets);
-    let mut clock = 0;
-    let mut number = 1;
-    for packet in packets {
-        let now = unit(start, packet.time);
-        let frame = packet.frame;
-        let arrival = Arrival { clock, now, frame };
-        let last = arrive(alloc, shards, policy, state, arrival)?;
-        append_row(&mut rows, policy.hook, number, last)?;
-        clock = clock.max(now);
-        number += 1;
-    }
-    Ok(rows)
-}
-
-/// The rows of a capture's packets, one after another, at a new access point at which only this hook has a program. Each
-/// is about the frame of its packet.
-pub(crate) fn follow(
+/// Hands on the rows of a capture's packets, one after another, at a new access point at which only this hook has a
+/// program. Each is about the frame of its packet.
+pub(crate) fn follow<'a, S: TakesRows<'a>>(
     alloc: Global,
     policy: Policy<'_>,
     state: &mut Meter,
-    replay: Replay<'_>,
-) -> Result<Vec<Row>, AllocError>
+    replay: Replay<'a>,
+    sink: &mut S,
+) -> Result<(), AllocError>
     requires alone { IsAlone policy }
     requires fitting { IsFitting policy.maps.now 0 state.old.held.seats }
-    ensures rows { IfOk result (λ rows. IsFollowed policy.entry replay.entry.link.now
-        (map seen_of replay.entry.packets.now) state.old rows.items state.new) }
+    requires fresh { S.taken sink.old ≡ 0 }
+    ensures rows { IfOk result (λ _. IsHandedOn S.takes policy.entry replay.entry.link.now
+        (packets_in replay.entry.recording.bytes.now) state.old sink.old state.new sink.new) }
 {
     asks_law::<Witness>();
     let mut shards = new_shards(alloc, replay.link)?;
-    rows(alloc, &mut shards, policy, state, replay.packets)
+    let start = first_time(alloc, replay.recording)?;
+    let mut walk = replay.recording.walk(alloc);
+    let mut done = 0;
+    let mut clock = 0;
+    while let Some(packet) = walk.next()? {
+        let now = unit(start, packet.time);
+        let frame = packet.frame;
+        let arrival = Arrival { clock, now, frame };
+        let last = arrive(alloc, &mut shards, policy, state, arrival)?;
+        hand_on(sink, policy.hook, done + 1, last, frame)?;
+        clock = clock.max(now);
+        done += 1;
+    }
+    Ok(())
 }

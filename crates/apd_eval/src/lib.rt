@@ -4,7 +4,8 @@
 //! capture come to a new access point of which the program is the only one; each query of its hook is a row, with the
 //! verdict and the steps of the program's run on that query. A second program may judge the same queries, with maps of
 //! its own; then the rows are the queries on which both differ. `profile_text` tells at which instructions the runs on
-//! these queries make their steps, `repeated_text` how long a run takes, by a clock.
+//! these queries make their steps, `repeated_text` how long a run takes, by a clock. Packets and rows come one after another,
+//! and none is kept, but by `repeated_text`, which judges the queries again.
 #![tactic(auto)]
 
 mod again;
@@ -16,9 +17,11 @@ mod handling;
 mod meter;
 mod profiling;
 mod repeating;
+mod row;
 mod ruling;
 mod sums;
 mod table;
+mod tally;
 mod tried;
 mod unjudged;
 mod witness;
@@ -26,9 +29,10 @@ mod words;
 
 pub use again::Contrast;
 pub use comparing::{Comparison, compare};
-pub use evaluating::{evaluate, evaluation_text};
-pub use follow::{Replay, Row};
+pub use evaluating::evaluation_text;
+pub use follow::Replay;
 pub use profiling::{ProfileForm, profile_text};
 pub use repeating::{Figures, Rounds, repeated_text};
+pub use row::Row;
 pub use ruling::Ruling;
 pub use tried::copied_shapes;

@@ -1,15 +1,16 @@
 //! How many steps a program makes at each of its instructions, on a capture's queries.
 
-ghost use Rattle.std.specs.Prelude.{◌≡◌, ◌++◌, IfOk, length, replicate, slice_get, slice_index, map, true, false};
+ghost use Rattle.std.specs.Prelude.{◌≡◌, ◌++◌, IfOk, length, replicate, slice_get, slice_index, true, false};
 ghost use Rattle.std.specs.String.{string_bytes};
-ghost use Rattle.capture.specs.Packets.{seen_of};
+ghost use Rattle.capture.specs.Walks.{packets_in};
 ghost use Rattle.apd_eval.specs.declared.profiling.ProfileForm.TheVariants.{Table, Json};
 ghost use Rattle.apd_eval.specs.Profile.{profile_line, json_line, line_of, line_at, slot_lines, most_of, is_json, IsFormed, IsProfile};
-ghost use Rattle.apd_eval.specs.Sums.{judged_of, sums_text};
+ghost use Rattle.apd_eval.specs.Sums.{judged_of, totals_in, totals_text};
 
-use crate::follow::{Replay, Row, follow};
+use crate::follow::{Replay, follow};
 use crate::meter::Meter;
-use crate::sums::{Course, sums_text};
+use crate::sums::{Course, totals_text};
+use crate::tally::Tally;
 use crate::tried::{Policy, Tried};
 use apd_policies::{Overlay, graph_text};
 use bpf_decode::Program;
@@ -151,15 +152,15 @@ fn append_slots(
 fn table_text(
     alloc: Global,
     profile: Profile<'_>,
-    rows: &[Row],
+    tally: Tally,
     course: Course<'_>,
 ) -> Result<String, AllocError>
     ensures is { IfOk result (λ text. IsFormed Table profile.entry.program.now.slots
-        profile.entry.counts.now (sums_text (judged_of course.entry) rows.now false) (string_bytes text)) }
+        profile.entry.counts.now (totals_text (judged_of course.entry) (totals_in tally) false) (string_bytes text)) }
 {
     let mut text = String::from_str(alloc, HEADS)?;
     append_slots(alloc, &mut text, profile, false)?;
-    let sums = sums_text(alloc, rows, course, false)?;
+    let sums = totals_text(alloc, tally, course, false)?;
     text.push_str(sums.as_str())?;
     Ok(text)
 }
@@ -168,15 +169,15 @@ fn table_text(
 fn json_text(
     alloc: Global,
     profile: Profile<'_>,
-    rows: &[Row],
+    tally: Tally,
     course: Course<'_>,
 ) -> Result<String, AllocError>
     ensures is { IfOk result (λ text. IsFormed Json profile.entry.program.now.slots
-        profile.entry.counts.now (sums_text (judged_of course.entry) rows.now true) (string_bytes text)) }
+        profile.entry.counts.now (totals_text (judged_of course.entry) (totals_in tally) true) (string_bytes text)) }
 {
     let mut text = String::new(alloc);
     append_slots(alloc, &mut text, profile, true)?;
-    let sums = sums_text(alloc, rows, course, true)?;
+    let sums = totals_text(alloc, tally, course, true)?;
     text.push_str(sums.as_str())?;
     Ok(text)
 }
@@ -185,17 +186,17 @@ fn json_text(
 fn formed(
     alloc: Global,
     profile: Profile<'_>,
-    rows: &[Row],
+    tally: Tally,
     course: Course<'_>,
     form: ProfileForm,
 ) -> Result<String, AllocError>
     ensures is { IfOk result (λ text. IsFormed form profile.entry.program.now.slots
-        profile.entry.counts.now (sums_text (judged_of course.entry) rows.now (is_json form))
+        profile.entry.counts.now (totals_text (judged_of course.entry) (totals_in tally) (is_json form))
         (string_bytes text)) }
 {
     match form {
-        ProfileForm::Table => table_text(alloc, profile, rows, course),
-        ProfileForm::Json => json_text(alloc, profile, rows, course),
+        ProfileForm::Table => table_text(alloc, profile, tally, course),
+        ProfileForm::Json => json_text(alloc, profile, tally, course),
         ProfileForm::Graph => {
             let counts = profile.counts;
             let most = most_of(counts);
@@ -220,7 +221,7 @@ pub fn profile_text(
     form: ProfileForm,
 ) -> Result<String, AllocError>
     ensures is { IfOk result (λ text. IsProfile accepted replay.entry.draw replay.entry.link.now
-        (map seen_of replay.entry.packets.now) form (string_bytes text)) }
+        (packets_in replay.entry.recording.bytes.now) form (string_bytes text)) }
 {
     let hook = accepted.hook();
     let course = Course {
@@ -240,14 +241,15 @@ pub fn profile_text(
         programs: &programs,
         maps: tables.maps(),
     };
-    let rows = follow(alloc, policy, &mut meter, replay)?;
+    let mut tally = Tally::none();
+    follow(alloc, policy, &mut meter, replay, &mut tally)?;
     match programs.program(hook) {
         Some(accepted) => {
             let profile = Profile {
                 program: accepted.program(),
                 counts: meter.counts(),
             };
-            return formed(alloc, profile, rows.as_slice(), course, form);
+            return formed(alloc, profile, tally, course, form);
         }
         None => unreachable!(),
     }

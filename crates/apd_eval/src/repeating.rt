@@ -1,22 +1,22 @@
 //! How long programs take on the queries of a capture.
 
-ghost use Rattle.std.specs.Prelude.{◌≡◌, IfOk, IfSome, length, map, string_bytes};
+ghost use Rattle.std.specs.Prelude.{◌≡◌, IfOk, IfSome, length, string_bytes};
 ghost use Rattle.bpf_helpers.specs.Hooked.{IsFitting};
-ghost use Rattle.capture.specs.Packets.{seen_of};
-ghost use Rattle.apd_eval.specs.Evaluated.{IsEvaluated};
-ghost use Rattle.apd_eval.specs.Repeated.{AreFigures, IsTold, IsRepeated, figures_line, json_figures, figures_text};
+ghost use Rattle.capture.specs.Walks.{packets_in};
+ghost use Rattle.apd_eval.specs.Repeated.{AreFigures, IsTold, IsRepeated, figures_line, json_figures, figures_below};
 
 use crate::again::rule;
-use crate::follow::{Replay, Row, follow};
+use crate::evaluating::evaluate;
+use crate::follow::Replay;
 use crate::meter::Meter;
+use crate::row::{Row, TakesRows};
 use crate::sums::Course;
-use crate::table::table_text;
-use crate::tried::{Policy, Tried};
+use crate::table::Table;
+use crate::tried::Policy;
 use ap_tables::ApTables;
 use bpf_helpers::tables_law;
 use bpf_machine::Accepted;
-use bpf_regions::Hook;
-use capture::Packet;
+use bpf_regions::{Frame, Hook};
 use program_judge::Programs;
 use std::alloc::{AllocError, Global};
 use std::io;
@@ -37,54 +37,49 @@ pub struct Figures {
     pub median: u64,
 }
 
-/// Programs, and the rows whose queries they judge again.
+/// A table, and the queries of its rows: each row, and the frame of its packet.
+#[derive(Drop)]
+struct Queries<'a> {
+    table: Table,
+    rows: Vec<Row>,
+    frames: Vec<Frame<'a>>,
+}
+
+impl<'a> TakesRows<'a> for Queries<'a> {
+    ghost use Rattle.apd_eval.specs.Tabled.{TakesRow};
+
+    ghost taken = { λ q. q.table.tally.rows };
+
+    ghost takes = { λ s row frame t. TakesRow s.table row t.table };
+
+    fn take(&mut self, row: &Row, frame: &Frame<'a>) -> Result<(), AllocError> {
+        self.table.take(row, frame)?;
+        self.rows.push(*row)?;
+        match Frame::new(frame.bytes()) {
+            Some(frame) => self.frames.push(frame)?,
+            None => unreachable!(),
+        }
+        Ok(())
+    }
+}
+
+/// Programs, the first number that they draw, and the queries that they judge again.
 #[derive(Clone, Copy)]
 struct Matter<'a> {
     hook: Hook,
     programs: &'a Programs,
-    replay: Replay<'a>,
+    draw: u64,
     rows: &'a [Row],
-}
-
-/// Rows, and the programs that judged them.
-#[derive(Drop)]
-struct Judged {
-    programs: Programs,
-    rows: Vec<Row>,
-}
-
-/// The verdicts of a program, as `evaluate` returns them, and the program.
-fn judge_queries(
-    alloc: Global,
-    accepted: Accepted,
-    replay: Replay<'_>,
-) -> Result<Judged, AllocError>
-    ensures rows { IfOk result (λ j. IsEvaluated accepted replay.entry.draw replay.entry.link.now
-        (map seen_of replay.entry.packets.now) j.rows.items) }
-{
-    let hook = accepted.hook();
-    let Tried {
-        programs,
-        tables,
-        state,
-    } = Tried::new(alloc, accepted, replay.draw)?;
-    let mut meter = Meter::new(state, Vec::new(alloc));
-    let policy = Policy {
-        hook,
-        programs: &programs,
-        maps: tables.maps(),
-    };
-    let rows = follow(alloc, policy, &mut meter, replay)?;
-    Ok(Judged { programs, rows })
+    frames: &'a [Frame<'a>],
 }
 
 /// Judges the queries of rows, one after another.
-fn judge_all(policy: Policy<'_>, state: &mut Meter, rows: &[Row], packets: &[Packet<'_>])
+fn judge_all(policy: Policy<'_>, state: &mut Meter, rows: &[Row], frames: &[Frame<'_>])
     requires fitting { IsFitting policy.maps.now 0 state.old.held.seats }
     ensures fitting { IsFitting policy.entry.maps.now 0 state.new.held.seats }
 {
-    for row in rows {
-        rule(policy, state, row, packets);
+    for (row, frame) in rows.iter().zip(frames) {
+        rule(policy, state, row, frame);
     }
 }
 
@@ -102,16 +97,15 @@ fn nanos_of_a_run(
     Some(each.min(u128::from(u64::MAX)) as u64)
 }
 
-/// The nanoseconds of a run in one round: the queries of all rows, one after another, on maps of zeros that only this
+/// The nanoseconds of a run in one round: all queries, one after another, on maps of zeros that only this
 /// round has.
 fn round<C: Clock>(
     alloc: Global,
     matter: Matter<'_>,
     clock: &C,
 ) -> Result<Option<u64>, AllocError> {
-    let replay = matter.replay;
     let mut tables = ApTables::new(alloc, matter.programs.shapes(), 1)?;
-    let Ok(state) = tables.worker(alloc, 0, replay.draw) else {
+    let Ok(state) = tables.worker(alloc, 0, matter.draw) else {
         return Err(AllocError);
     };
     tables_law();
@@ -122,7 +116,7 @@ fn round<C: Clock>(
         maps: tables.maps(),
     };
     let begun = Instant::now(clock);
-    judge_all(policy, &mut meter, matter.rows, replay.packets);
+    judge_all(policy, &mut meter, matter.rows, matter.frames);
     let ended = Instant::now(clock);
     Ok(nanos_of_a_run(begun, ended, matter.rows.len()))
 }
@@ -197,18 +191,18 @@ fn json_figures(alloc: Global, count: u32, figures: Option<Figures>) -> Result<S
     }
 }
 
-/// The figures of rows as a line; without rows, no text.
+/// The figures of so many rows as a line; without rows, no text.
 fn figures_text(
     alloc: Global,
-    rows: &[Row],
+    rows: usize,
     count: u32,
     figures: Option<Figures>,
     json: bool,
 ) -> Result<String, AllocError>
     ensures is { IfOk result
-        (λ text. string_bytes text ≡ figures_text rows.now count figures json) }
+        (λ text. string_bytes text ≡ figures_below rows count figures json) }
 {
-    if rows.is_empty() {
+    if rows == 0 {
         return Ok(String::new(alloc));
     }
     if json {
@@ -230,7 +224,7 @@ pub fn repeated_text<C: Clock>(
     json: bool,
 ) -> Result<String, AllocError>
     ensures is { IfOk result (λ text. IsRepeated accepted replay.entry.draw replay.entry.link.now
-        (map seen_of replay.entry.packets.now) json rounds.now.count (string_bytes text)) }
+        (packets_in replay.entry.recording.bytes.now) json rounds.now.count (string_bytes text)) }
 {
     let hook = accepted.hook();
     let budget = accepted.budget();
@@ -239,16 +233,28 @@ pub fn repeated_text<C: Clock>(
         budget,
         replay,
     };
-    let Judged { programs, rows } = judge_queries(alloc, accepted, replay)?;
-    let mut text = table_text(alloc, rows.as_slice(), course, json)?;
+    let mut queries = Queries {
+        table: Table::new(alloc, json)?,
+        rows: Vec::new(alloc),
+        frames: Vec::new(alloc),
+    };
+    let programs = evaluate(alloc, accepted, replay, &mut queries)?;
+    let Queries {
+        table,
+        rows,
+        frames,
+    } = queries;
+    let judged = table.tally.rows;
+    let mut text = table.finish(course)?;
     let matter = Matter {
         hook,
         programs: &programs,
-        replay,
+        draw: replay.draw,
         rows: rows.as_slice(),
+        frames: frames.as_slice(),
     };
     let figures = measure(alloc, matter, rounds)?;
-    let line = figures_text(alloc, rows.as_slice(), rounds.count, figures, json)?;
+    let line = figures_text(alloc, judged, rounds.count, figures, json)?;
     text.push_str(line.as_str())?;
     Ok(text)
 }

@@ -1,11 +1,11 @@
 //! The line of sums below a table.
 
-ghost use Rattle.std.specs.Prelude.{◌≡◌, not, IfOk, count_by, string_bytes};
-ghost use Rattle.apd_eval.specs.Sums.{grants, marks, counts_text, most_steps, steps_text, judged_line, judged_of, judged_text, plain_sums, json_counts, json_steps, json_judged, json_rows, json_sums, sums_text};
+ghost use Rattle.std.specs.Prelude.{◌≡◌, IfOk, string_bytes};
+ghost use Rattle.apd_eval.specs.Sums.{totals_in, counts_text, steps_text, judged_line, judged_of, judged_text, plain_sums, json_counts, json_steps, json_judged, json_rows, json_sums, totals_text};
 
-use crate::follow::{Replay, Row};
+use crate::follow::Replay;
+use crate::tally::Tally;
 use crate::unjudged::{json_reasons, none_text, others_text, reasons_of};
-use crate::words::Verdict;
 use bpf_regions::Hook;
 use std::alloc::{AllocError, Global};
 
@@ -17,68 +17,21 @@ pub(crate) struct Course<'a> {
     pub replay: Replay<'a>,
 }
 
-impl Row {
-    /// Whether the verdict grants what is asked for.
-    fn grants(&self) -> bool
-        ensures is { result ≡ grants self.now }
-    {
-        !matches!(
-            self.ruling.meaning(),
-            Verdict::Refuse(_) | Verdict::Decline | Verdict::Discard
-        )
-    }
-
-    /// Whether the verdict has a mark.
-    fn marks(&self) -> bool
-        ensures is { result ≡ marks self.now }
-    {
-        matches!(self.ruling.meaning(), Verdict::Mark(_))
-    }
-}
-
-fn granted(rows: &[Row]) -> usize
-    ensures is { result ≡ count_by grants rows.now }
-{
-    rows.iter().filter(|row| row.grants()).count()
-}
-
-fn refused(rows: &[Row]) -> usize
-    ensures is { result ≡ count_by (λ row. not (grants row)) rows.now }
-{
-    rows.iter().filter(|row| !row.grants()).count()
-}
-
-fn marked(rows: &[Row]) -> usize
-    ensures is { result ≡ count_by marks rows.now }
-{
-    rows.iter().filter(|row| row.marks()).count()
-}
-
 /// How many verdicts grant and refuse, in words of the hook.
-fn counts_text(alloc: Global, rows: &[Row], hook: Hook) -> Result<String, AllocError>
-    ensures is { IfOk result (λ text. string_bytes text ≡ counts_text hook rows.now) }
+fn counts_text(alloc: Global, tally: Tally, hook: Hook) -> Result<String, AllocError>
+    ensures is { IfOk result (λ text. string_bytes text ≡ counts_text hook (totals_in tally)) }
 {
-    let granted = granted(rows);
-    let refused = refused(rows);
+    let Tally {
+        granted,
+        refused,
+        marked,
+        ..
+    } = tally;
     match hook {
         Hook::Association => format!(in alloc; "admit {granted}, refuse {refused}"),
         Hook::Addba => format!(in alloc; "grant {granted}, decline {refused}"),
-        Hook::Data => {
-            let marked = marked(rows);
-            format!(in alloc; "pass {granted} ({marked} marked), drop {refused}")
-        }
+        Hook::Data => format!(in alloc; "pass {granted} ({marked} marked), drop {refused}"),
     }
-}
-
-/// The most steps of a row.
-fn most_steps(rows: &[Row]) -> u32
-    ensures is { result ≡ most_steps rows.now }
-{
-    let mut most = 0;
-    for row in rows {
-        most = row.ruling.steps.max(most);
-    }
-    most
 }
 
 /// In how many steps, at most.
@@ -103,48 +56,49 @@ fn judged_line(
 }
 
 /// The same of rows.
-fn judged_text(alloc: Global, rows: &[Row], course: Course<'_>) -> Result<String, AllocError>
+fn judged_text(alloc: Global, tally: Tally, course: Course<'_>) -> Result<String, AllocError>
     ensures is { IfOk result
-        (λ text. string_bytes text ≡ judged_text (judged_of course.entry) rows.now) }
+        (λ text. string_bytes text ≡ judged_text (judged_of course.entry) (totals_in tally)) }
 {
-    let judged = rows.len();
     let packets = course.replay.count();
-    let counts = counts_text(alloc, rows, course.hook)?;
-    let most = most_steps(rows);
-    let steps = steps_text(alloc, most, course.budget)?;
+    let counts = counts_text(alloc, tally, course.hook)?;
+    let steps = steps_text(alloc, tally.most, course.budget)?;
     let counts = counts.as_str();
     let steps = steps.as_str();
-    judged_line(alloc, judged, packets, counts, steps)
+    judged_line(alloc, tally.rows, packets, counts, steps)
 }
 
 /// The same, and which packets weren't judged; or why none was.
-fn plain_sums(alloc: Global, rows: &[Row], course: Course<'_>) -> Result<String, AllocError>
+fn plain_sums(alloc: Global, tally: Tally, course: Course<'_>) -> Result<String, AllocError>
     ensures is { IfOk result
-        (λ text. string_bytes text ≡ plain_sums (judged_of course.entry) rows.now) }
+        (λ text. string_bytes text ≡ plain_sums (judged_of course.entry) (totals_in tally)) }
 {
-    if rows.is_empty() {
+    if tally.rows == 0 {
         return none_text(alloc, course.hook, course.replay);
     }
-    let mut text = judged_text(alloc, rows, course)?;
-    let reasons = reasons_of(course.hook, course.replay, rows.len());
+    let mut text = judged_text(alloc, tally, course)?;
+    let reasons = reasons_of(alloc, course.hook, course.replay, tally.rows)?;
     let others = others_text(alloc, course.hook, reasons)?;
     text.push_str(others.as_str())?;
     Ok(text)
 }
 
 /// How many verdicts grant and refuse, in JSON.
-fn json_counts(alloc: Global, rows: &[Row], hook: Hook) -> Result<String, AllocError>
-    ensures is { IfOk result (λ text. string_bytes text ≡ json_counts hook rows.now) }
+fn json_counts(alloc: Global, tally: Tally, hook: Hook) -> Result<String, AllocError>
+    ensures is { IfOk result (λ text. string_bytes text ≡ json_counts hook (totals_in tally)) }
 {
-    let granted = granted(rows);
-    let refused = refused(rows);
+    let Tally {
+        granted,
+        refused,
+        marked,
+        ..
+    } = tally;
     match hook {
         Hook::Association => format!(in alloc; ",\"admit\":{granted},\"refuse\":{refused}"),
         Hook::Addba => format!(in alloc; ",\"grant\":{granted},\"decline\":{refused}"),
-        Hook::Data => {
-            let marked = marked(rows);
-            format!(in alloc; ",\"pass\":{granted},\"marked\":{marked},\"drop\":{refused}")
-        }
+        Hook::Data => format!(in alloc;
+            ",\"pass\":{granted},\"marked\":{marked},\"drop\":{refused}"
+        ),
     }
 }
 
@@ -170,44 +124,42 @@ fn json_judged(
 }
 
 /// The same of rows.
-fn json_rows(alloc: Global, rows: &[Row], course: Course<'_>) -> Result<String, AllocError>
+fn json_rows(alloc: Global, tally: Tally, course: Course<'_>) -> Result<String, AllocError>
     ensures is { IfOk result
-        (λ text. string_bytes text ≡ json_rows (judged_of course.entry) rows.now) }
+        (λ text. string_bytes text ≡ json_rows (judged_of course.entry) (totals_in tally)) }
 {
-    let judged = rows.len();
     let packets = course.replay.count();
-    let counts = json_counts(alloc, rows, course.hook)?;
-    let most = most_steps(rows);
-    let steps = json_steps(alloc, most, course.budget)?;
+    let counts = json_counts(alloc, tally, course.hook)?;
+    let steps = json_steps(alloc, tally.most, course.budget)?;
     let counts = counts.as_str();
     let steps = steps.as_str();
-    json_judged(alloc, judged, packets, counts, steps)
+    json_judged(alloc, tally.rows, packets, counts, steps)
 }
 
 /// All sums as a line of JSON.
-fn json_sums(alloc: Global, rows: &[Row], course: Course<'_>) -> Result<String, AllocError>
+fn json_sums(alloc: Global, tally: Tally, course: Course<'_>) -> Result<String, AllocError>
     ensures is { IfOk result
-        (λ text. string_bytes text ≡ json_sums (judged_of course.entry) rows.now) }
+        (λ text. string_bytes text ≡ json_sums (judged_of course.entry) (totals_in tally)) }
 {
-    let mut text = json_rows(alloc, rows, course)?;
-    let reasons = reasons_of(course.hook, course.replay, rows.len());
+    let mut text = json_rows(alloc, tally, course)?;
+    let reasons = reasons_of(alloc, course.hook, course.replay, tally.rows)?;
     let rest = json_reasons(alloc, reasons)?;
     text.push_str(rest.as_str())?;
     Ok(text)
 }
 
 /// The sums of rows, in JSON or not.
-pub(crate) fn sums_text(
+pub(crate) fn totals_text(
     alloc: Global,
-    rows: &[Row],
+    tally: Tally,
     course: Course<'_>,
     json: bool,
 ) -> Result<String, AllocError>
     ensures is { IfOk result
-        (λ text. string_bytes text ≡ sums_text (judged_of course.entry) rows.now json) }
+        (λ text. string_bytes text ≡ totals_text (judged_of course.entry) (totals_in tally) json) }
 {
     if json {
-        return json_sums(alloc, rows, course);
+        return json_sums(alloc, tally, course);
     }
-    plain_sums(alloc, rows, course)
+    plain_sums(alloc, tally, course)
 }

@@ -2,12 +2,14 @@
 
 ghost use Rattle.std.specs.Prelude.{◌≡◌, ◌++◌, IfOk};
 ghost use Rattle.std.specs.String.{string_bytes};
-ghost use Rattle.apd_eval.specs.Sums.{judged_of, sums_text};
-ghost use Rattle.apd_eval.specs.Table.{station_text, row_line, json_line, lines_of, rows_text, table_text};
+ghost use Rattle.apd_eval.specs.Sums.{judged_of, totals_in, totals_text};
+ghost use Rattle.apd_eval.specs.Table.{station_text, row_line, json_line, line_in, front};
+ghost use Rattle.apd_eval.specs.Tabled.{IsBegun};
 
-use crate::follow::Row;
-use crate::sums::{Course, sums_text};
-use bpf_regions::Context;
+use crate::row::{Row, TakesRows};
+use crate::sums::{Course, totals_text};
+use crate::tally::Tally;
+use bpf_regions::{Context, Frame};
 use std::alloc::{AllocError, Global};
 use std::fmt::Write;
 
@@ -53,52 +55,71 @@ fn append_json(alloc: Global, text: &mut String, row: &Row) -> Result<(), AllocE
     Ok(())
 }
 
-fn append_rows(alloc: Global, text: &mut String, rows: &[Row]) -> Result<(), AllocError>
-    ensures ok { IfOk result (λ _. string_bytes text.new
-        ≡ string_bytes text.old ++ lines_of row_line rows.now) }
-{
-    for row in rows {
-        append_row(alloc, text, row)?;
-    }
-    Ok(())
-}
-
-fn append_all_json(alloc: Global, text: &mut String, rows: &[Row]) -> Result<(), AllocError>
-    ensures ok { IfOk result (λ _. string_bytes text.new
-        ≡ string_bytes text.old ++ lines_of json_line rows.now) }
-{
-    for row in rows {
-        append_json(alloc, text, row)?;
-    }
-    Ok(())
-}
-
-/// The rows of a table with their heads, or lines of JSON.
-fn rows_text(alloc: Global, rows: &[Row], json: bool) -> Result<String, AllocError>
-    ensures is { IfOk result (λ text. string_bytes text ≡ rows_text rows.now json) }
+/// Appends the line of a row, in JSON or not.
+fn append_line(alloc: Global, text: &mut String, row: &Row, json: bool) -> Result<(), AllocError>
+    ensures ok { IfOk result
+        (λ _. string_bytes text.new ≡ string_bytes text.old ++ line_in json row.now) }
 {
     if json {
-        let mut text = String::new(alloc);
-        append_all_json(alloc, &mut text, rows)?;
-        return Ok(text);
+        return append_json(alloc, text, row);
     }
-    let mut text = String::from_str(alloc, HEADS)?;
-    append_rows(alloc, &mut text, rows)?;
-    Ok(text)
+    append_row(alloc, text, row)
 }
 
-/// The table of a capture's verdicts by a program with this budget, or lines of JSON, with the sums.
-pub(crate) fn table_text(
-    alloc: Global,
-    rows: &[Row],
-    course: Course<'_>,
-    json: bool,
-) -> Result<String, AllocError>
-    ensures is { IfOk result (λ text. string_bytes text
-        ≡ table_text rows.now (sums_text (judged_of course.entry) rows.now json) json) }
+/// What stands before the lines.
+fn front(json: bool) -> &'static str
+    ensures is { result.now ≡ front json }
 {
-    let sums = sums_text(alloc, rows, course, json)?;
-    let mut text = rows_text(alloc, rows, json)?;
-    text.push_str(sums.as_str())?;
-    Ok(text)
+    if json { "" } else { HEADS }
+}
+
+/// The table of a capture's verdicts as its rows come: the lines so far, with the heads of their columns or in JSON, and
+/// how many rows they are of.
+#[derive(Drop)]
+pub(crate) struct Table {
+    alloc: Global,
+    json: bool,
+    text: String,
+    pub tally: Tally,
+}
+
+impl Table {
+    /// A table without rows.
+    pub(crate) fn new(alloc: Global, json: bool) -> Result<Table, AllocError>
+        ensures begun { IfOk result (IsBegun json) }
+    {
+        let text = String::from_str(alloc, front(json))?;
+        let tally = Tally::none();
+        Ok(Table {
+            alloc,
+            json,
+            text,
+            tally,
+        })
+    }
+
+    /// The table with the sums of its rows.
+    pub(crate) fn finish(self, course: Course<'_>) -> Result<String, AllocError>
+        ensures is { IfOk result (λ text. string_bytes text ≡ string_bytes self.text
+            ++ totals_text (judged_of course.entry) (totals_in self.tally) self.json) }
+    {
+        let sums = totals_text(self.alloc, self.tally, course, self.json)?;
+        let mut text = self.text;
+        text.push_str(sums.as_str())?;
+        Ok(text)
+    }
+}
+
+impl<'a> TakesRows<'a> for Table {
+    ghost use Rattle.apd_eval.specs.Tabled.{TakesRow};
+
+    ghost taken = { λ t. t.tally.rows };
+
+    ghost takes = { λ s row frame t. TakesRow s row t };
+
+    fn take(&mut self, row: &Row, _frame: &Frame<'a>) -> Result<(), AllocError> {
+        append_line(self.alloc, &mut self.text, row, self.json)?;
+        self.tally = self.tally.with(row);
+        Ok(())
+    }
 }

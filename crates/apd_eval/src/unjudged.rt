@@ -1,13 +1,13 @@
 //! Why packets of a capture weren't judged.
 
-ghost use Rattle.std.specs.Prelude.{◌≡◌, IfOk, map, slice_index_or, string_bytes};
-ghost use Rattle.capture.specs.Packets.{seen_of};
+ghost use Rattle.std.specs.Prelude.{◌≡◌, ◌≤◌, ◌-◌, ◌^◌, IfOk, slice_index_or, string_bytes, if◌then◌else◌};
 ghost use Rattle.capture.specs.Radiotap.{bytes_in};
-ghost use Rattle.apd_eval.specs.Unjudged.{octet, is_judged, is_for, is_encrypted, reason_of, is_same, count, other_kind, reasons_of, separator, with_part, parts_text, colon, none_line, others_line, lonely_line, none_text, json_reasons};
+ghost use Rattle.capture.specs.Walks.{packets_in};
+ghost use Rattle.apd_eval.specs.Unjudged.{octet, is_judged, is_for, is_encrypted, reason_of, is_same, no_packets, with_packet, AreAtMost, other_kind, reasons_of, separator, with_part, parts_text, colon, none_line, others_line, lonely_line, none_text, json_reasons};
 
 use crate::follow::{Replay, is_received};
 use bpf_regions::Hook;
-use capture::{LeftOut, Packet};
+use capture::LeftOut;
 use std::alloc::{AllocError, Global};
 use std::fmt::Write;
 
@@ -49,6 +49,45 @@ impl Reason {
             (Reason::Encrypted, Reason::Encrypted) => true,
             (Reason::Unasked, Reason::Unasked) => true,
             _ => false,
+        }
+    }
+}
+
+/// 1 if a test holds, otherwise 0.
+fn one_if(test: bool) -> usize
+    ensures is { result ≡ (if test then 1 else 0) }
+    ensures few { result ≤ 1 }
+{
+    if test { 1 } else { 0 }
+}
+
+impl Reasons {
+    /// Of no packets.
+    fn none() -> Reasons
+        ensures is { result ≡ no_packets }
+    {
+        Reasons {
+            missing: 0,
+            other: 0,
+            elsewhere: 0,
+            encrypted: 0,
+            refused: 0,
+            requests: 0,
+        }
+    }
+
+    /// The same with one more packet, which wasn't judged for this reason, and by the hook of associations for that.
+    fn with(self, reason: Reason, at_association: Reason) -> Reasons
+        requires room { AreAtMost (2 ^ 64 - 2) self }
+        ensures is { result ≡ with_packet self reason at_association }
+    {
+        Reasons {
+            missing: self.missing + one_if(reason.is_same(Reason::NoFrame)),
+            other: self.other + one_if(reason.is_same(Reason::OtherKind)),
+            elsewhere: self.elsewhere + one_if(reason.is_same(Reason::OtherReceiver)),
+            encrypted: self.encrypted + one_if(reason.is_same(Reason::Encrypted)),
+            refused: self.refused + one_if(reason.is_same(Reason::Unasked)),
+            requests: self.requests + one_if(at_association.is_same(Reason::Unasked)),
         }
     }
 }
@@ -125,38 +164,26 @@ fn reason_of(hook: Hook, address: [u8; 6], frame: Result<&[u8], LeftOut>) -> Rea
     }
 }
 
-/// How many packets weren't judged for this reason.
-fn count(reason: Reason, hook: Hook, address: [u8; 6], packets: &[Packet<'_>]) -> usize
-    ensures is { result ≡ count reason hook address (map seen_of packets.now) }
-{
-    packets
-        .iter()
-        .filter(|packet| reason_of(hook, address, packet.frame).is_same(reason))
-        .count()
-}
-
-/// How many packets weren't judged for each reason, at an access point with this address, if this many were.
-fn reasons_for(hook: Hook, address: [u8; 6], packets: &[Packet<'_>], judged: usize) -> Reasons
-    ensures is { result ≡ reasons_of hook address (map seen_of packets.now) judged }
-{
-    let passed = count(Reason::Unasked, hook, address, packets);
-    Reasons {
-        missing: count(Reason::NoFrame, hook, address, packets),
-        other: count(Reason::OtherKind, hook, address, packets),
-        elsewhere: count(Reason::OtherReceiver, hook, address, packets),
-        encrypted: count(Reason::Encrypted, hook, address, packets),
-        refused: passed.saturating_sub(judged),
-        requests: count(Reason::Unasked, Hook::Association, address, packets),
-    }
-}
-
 /// How many packets weren't judged for each reason, if this many were.
-pub(crate) fn reasons_of(hook: Hook, replay: Replay<'_>, judged: usize) -> Reasons
-    ensures is { result ≡ reasons_of hook replay.entry.link.now.bssid
-        (map seen_of replay.entry.packets.now) judged }
+pub(crate) fn reasons_of(
+    alloc: Global,
+    hook: Hook,
+    replay: Replay<'_>,
+    judged: usize,
+) -> Result<Reasons, AllocError>
+    ensures is { IfOk result (λ reasons. reasons ≡ reasons_of hook replay.entry.link.now.bssid
+        (packets_in replay.entry.recording.bytes.now) judged) }
 {
     let address = replay.link.bssid().octets();
-    reasons_for(hook, address, replay.packets, judged)
+    let mut passed = Reasons::none();
+    let mut walk = replay.recording.walk(alloc);
+    while let Some(packet) = walk.next()? {
+        let reason = reason_of(hook, address, packet.frame);
+        let at_association = reason_of(Hook::Association, address, packet.frame);
+        passed = passed.with(reason, at_association);
+    }
+    let refused = passed.refused.saturating_sub(judged);
+    Ok(Reasons { refused, ..passed })
 }
 
 /// What separates a list so far from its next part.
@@ -232,9 +259,9 @@ fn lonely_line(reasons: Reasons) -> &'static str
 /// The sums of a table without rows.
 pub(crate) fn none_text(alloc: Global, hook: Hook, replay: Replay<'_>) -> Result<String, AllocError>
     ensures is { IfOk result (λ text. string_bytes text ≡ none_text hook
-        replay.entry.link.now.bssid (map seen_of replay.entry.packets.now)) }
+        replay.entry.link.now.bssid (packets_in replay.entry.recording.bytes.now)) }
 {
-    let reasons = reasons_of(hook, replay, 0);
+    let reasons = reasons_of(alloc, hook, replay, 0)?;
     let parts = parts_text(alloc, hook, reasons)?;
     let mut text = none_line(alloc, replay.count(), parts.as_str())?;
     text.push_str(lonely_line(reasons))?;

@@ -11,4 +11,4 @@ mod lines;
 mod script;
 
 pub use chosen::{Bssid, Named, access_points};
-pub use script::{Manner, ScriptRest, script_text, start, unit};
+pub use script::{Manner, ScriptRest, first_time, script_text, unit};

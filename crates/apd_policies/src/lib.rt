@@ -7,5 +7,5 @@
 mod frames;
 mod graph;
 
-pub use frames::{Bssid, Manner, Named, ScriptRest, access_points, script_text, start, unit};
+pub use frames::{Bssid, Manner, Named, ScriptRest, access_points, first_time, script_text, unit};
 pub use graph::{Overlay, graph_text};

@@ -60,8 +60,9 @@ IsSpan-whole file recorded s same held counted long is_cut =
       captured = subst P (sym is_cut) (subst Q (sym took) held);
     }
 
--- packets that were read from this much of a file
-pub IsCaptured-read : (file front : List ℕ) (s : Span) (packets : List Seen) → IsSpan file s → front ≡ take s.end file → packets ≡ packets_in front → IsCaptured file s.cut packets
-IsCaptured-read file front s packets h is same =
-    let P : List Seen → Type 0 = λ l. IsCaptured file s.cut l in
-    subst P (sym (same ∙ ap packets_in is)) h.captured
+-- the packets of this much of a file
+pub IsCaptured-recorded : (file slice recorded : List ℕ) (s : Span) → slice ≡ file → IsSpan slice s → recorded ≡ take s.end slice → IsCaptured file s.cut (packets_in recorded)
+IsCaptured-recorded file slice recorded s same h is =
+    let P : List ℕ → Type 0 = λ f. IsCaptured f s.cut (packets_in recorded) in
+    let Q : List ℕ → Type 0 = λ l. IsCaptured slice s.cut (packets_in l) in
+    subst P same (subst Q (sym is) h.captured)

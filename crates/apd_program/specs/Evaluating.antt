@@ -1,11 +1,12 @@
 -- The answer of `eval` for a program and a capture, or for two programs.
-use Rattle.std.specs.Prelude.{◌≡◌, ◌^◌, ℕ, Bool, true, false, List, map, Option, Some, None, Vec, string_bytes}
+use Rattle.std.specs.Prelude.{◌≡◌, ◌^◌, ℕ, Bool, true, false, List, Option, Some, None, Vec, string_bytes}
 use Rattle.std.specs.declared.alloc.Global.{Global}
 use Rattle.bpf_regions.specs.declared.hooks.Hook.{Hook}
 use Rattle.bpf_regions.specs.declared.maps.Shape.{Shape}
 use Rattle.bpf_machine.specs.Verified.{Verified}
 use Rattle.bpf_verifier.specs.declared.limit.Limits.{Limits}
-use Rattle.capture.specs.Packets.{Seen, seen_of}
+use Rattle.capture.specs.Packets.{Seen}
+use Rattle.capture.specs.Walks.{packets_in}
 use Rattle.capture.specs.declared.fault.CaptureFault.{CaptureFault}
 use Rattle.ap_model.specs.Readings.{Config}
 use Rattle.apd_config.specs.Text.{IsTextOf}
@@ -77,7 +78,7 @@ replayed_by e = record {
   hook = e.terms.hook;
   draw = e.replay.draw;
   config = e.replay.link.now;
-  packets = map seen_of e.replay.packets.now;
+  packets = packets_in e.replay.recording.bytes.now;
   cut = e.cut;
   report = e.report;
 }

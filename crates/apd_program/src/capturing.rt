@@ -1,22 +1,14 @@
 //! Captures as far as they go: all packets, or, if a capture is cut, those before the cut.
 
-ghost use Rattle.std.specs.Prelude.{◌≡◌, ◌++◌, ℕ, List, IfOk, IfErr, IfSome, map, take};
+ghost use Rattle.std.specs.Prelude.{◌≡◌, ◌++◌, ℕ, List, IfOk, IfErr, IfSome, take};
 ghost use Rattle.capture.specs.Captures.{Refuses};
-ghost use Rattle.capture.specs.Packets.{seen_of};
-ghost use Rattle.apd_program.specs.Captured.{is_before, IsCaptured, IsNoCapture};
+ghost use Rattle.apd_program.specs.Captured.{is_before, IsNoCapture};
 ghost use Rattle.apd_program.specs.Faults.{IsMemoryOr};
 ghost use Rattle.apd_program.specs.Spans.{IsSpan};
 
 use crate::fault::{ProgramFault, of_capture};
-use capture::{CaptureFault, Packet, Recording, read_capture};
+use capture::{CaptureFault, Recording};
 use std::alloc::Global;
-
-/// The packets of a capture, or, if it is cut at this fault, those before that.
-#[derive(Drop)]
-pub(crate) struct Captured<'a> {
-    pub packets: Vec<Packet<'a>>,
-    pub cut: Option<CaptureFault>,
-}
 
 /// How much of a capture is read: all, or, if it is cut at this fault, what is before that.
 #[derive(Clone, Copy)]
@@ -134,25 +126,4 @@ pub(crate) fn recording_in(file: &[u8], span: Span) -> Recording<'_>
     let (bytes, _) = file.split_at(span.end);
     let count = span.count;
     Recording { bytes, count }
-}
-
-/// The packets of a capture, or, if it is cut, those before that. `path` names it if it isn't a capture.
-pub(crate) fn read_packets<'a>(
-    alloc: Global,
-    path: &str,
-    file: &'a [u8],
-) -> Result<Captured<'a>, ProgramFault>
-    ensures captured { IfOk result
-        (λ c. IsCaptured file.entry.now c.cut (map seen_of c.packets.items)) }
-    ensures fault { IfErr result (IsMemoryOr (IsNoCapture file.entry.now)) }
-{
-    let span = span_of(alloc, path, file)?;
-    let (front, _) = file.split_at(span.end);
-    match read_capture(alloc, front) {
-        Ok(packets) => Ok(Captured {
-            packets,
-            cut: span.cut,
-        }),
-        Err(_) => Err(ProgramFault::NoMemory),
-    }
 }

@@ -1,7 +1,7 @@
 //! Verdicts on a capture, of one program or of two: the command `eval`.
 
-ghost use Rattle.std.specs.Prelude.{◌≡◌, IfOk, IfErr, Some, map, option_map, string_bytes};
-ghost use Rattle.capture.specs.Packets.{seen_of};
+ghost use Rattle.std.specs.Prelude.{◌≡◌, IfOk, IfErr, Some, option_map, string_bytes};
+ghost use Rattle.capture.specs.Walks.{packets_in};
 ghost use Rattle.apd_words.specs.Asked.{asked_evaluation, text_of};
 ghost use Rattle.apd_program.specs.Admitting.{IsOfAdmitted};
 ghost use Rattle.apd_program.specs.Answers.{IsAnswer, HasNoAnswer};
@@ -11,7 +11,7 @@ ghost use Rattle.apd_program.specs.Verifying.{within};
 
 use crate::admission::{Admission, admit_code};
 use crate::answer::Answer;
-use crate::capturing::{Captured, read_packets};
+use crate::capturing::{recording_in, span_of};
 use crate::explaining::Reason;
 use crate::fault::{ProgramFault, of_configuration};
 use crate::reading::{code, read};
@@ -102,7 +102,7 @@ fn report_text(
     report: Report,
 ) -> Result<String, AllocError>
     ensures is { IfOk result (λ text. IsReport report accepted replay.entry.draw replay.entry.link.now
-        (map seen_of replay.entry.packets.now) (string_bytes text)) }
+        (packets_in replay.entry.recording.bytes.now) (string_bytes text)) }
 {
     match report {
         Report::Verdicts => evaluation_text(alloc, accepted, replay, false),
@@ -301,18 +301,19 @@ fn evaluated<F: Files>(
         capture,
         in_force,
     } = gather(alloc, config, evaluation, files)?;
-    let Captured { packets, cut } = read_packets(alloc, evaluation.capture, capture.as_slice())?;
+    let file = capture.as_slice();
+    let span = span_of(alloc, evaluation.capture, file)?;
     let Setting { link, shapes, draw } = setting;
     let replay = Replay {
         link: &link,
         draw,
-        packets: packets.as_slice(),
+        recording: recording_in(file, span),
     };
     let exam = Exam {
         terms: evaluation.subject.terms,
         shapes: &shapes,
         replay,
-        cut,
+        cut: span.cut,
         report: evaluation.report,
     };
     judge(alloc, &in_force, code.as_slice(), exam, reason)

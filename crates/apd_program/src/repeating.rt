@@ -11,7 +11,7 @@ ghost use Rattle.apd_program.specs.Verifying.{within};
 
 use crate::admission::{Admission, admit_code};
 use crate::answer::Answer;
-use crate::capturing::{Captured, read_packets};
+use crate::capturing::{recording_in, span_of};
 use crate::evaluating::{Exam, Material, Setting, gather, is_json, verdicts};
 use crate::explaining::Reason;
 use crate::fault::ProgramFault;
@@ -79,18 +79,19 @@ fn repeated<C: Clock, F: Files>(
         capture,
         ..
     } = gather(alloc, config, evaluation, files)?;
-    let Captured { packets, cut } = read_packets(alloc, evaluation.capture, capture.as_slice())?;
+    let file = capture.as_slice();
+    let span = span_of(alloc, evaluation.capture, file)?;
     let Setting { link, shapes, draw } = setting;
     let replay = Replay {
         link: &link,
         draw,
-        packets: packets.as_slice(),
+        recording: recording_in(file, span),
     };
     let exam = Exam {
         terms: evaluation.subject.terms,
         shapes: &shapes,
         replay,
-        cut,
+        cut: span.cut,
         report: evaluation.report,
     };
     let rounds = Rounds {

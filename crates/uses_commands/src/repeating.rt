@@ -7,7 +7,7 @@ use apd_eval::{Replay, Rounds, repeated_text};
 use bpf_decode::decode;
 use bpf_regions::{Hook, Shapes};
 use bpf_verifier::verify;
-use capture::read_capture;
+use capture::Recording;
 use mac_types::Address;
 use std::alloc::Global;
 use std::io::{self, ErrorKind};
@@ -45,7 +45,7 @@ fn timed(rt: &impl Abort, alloc: Global, nanos: &[u64], count: u32, json: bool) 
         .ok()
         .expect(rt, "accepted");
     let bytes = hex::decode(alloc, CAPTURE).ok().expect(rt, "bytes");
-    let packets = read_capture(alloc, bytes.as_slice())
+    let recording = Recording::new(alloc, bytes.as_slice())
         .ok()
         .expect(rt, "a capture");
     let ssid = Octets::copy(alloc, b"lab").expect(rt, "memory");
@@ -54,7 +54,7 @@ fn timed(rt: &impl Abort, alloc: Global, nanos: &[u64], count: u32, json: bool) 
     let replay = Replay {
         link: &link,
         draw: 1,
-        packets: packets.as_slice(),
+        recording,
     };
     let clock = Shown {
         nanos,

@@ -1,8 +1,7 @@
 //! The script of a capture.
 
-ghost use Rattle.std.specs.Prelude.{◌≡◌, ◌+◌, ◌<◌, ◌++◌, [], true, false, IfOk, OnOk, map};
+ghost use Rattle.std.specs.Prelude.{◌≡◌, ◌+◌, ◌<◌, ◌++◌, [], true, false, IfOk, OnOk};
 ghost use Rattle.std.specs.String.{string_bytes};
-ghost use Rattle.capture.specs.Packets.{seen_of};
 ghost use Rattle.capture.specs.Radiotap.{bytes_in};
 ghost use Rattle.capture.specs.Walks.{packets_in};
 ghost use Rattle.apd_policies.specs.Chosen.{is_kept};
@@ -10,21 +9,9 @@ ghost use Rattle.apd_policies.specs.Script.{start_of, unit_of, kept_lines, clock
 
 use crate::frames::chosen::{Bssid, count_others, is_kept};
 use crate::frames::lines::{append_others, append_packet, append_time, append_wait};
-use capture::{LeftOut, Packet, Recording, Walk};
+use capture::{LeftOut, Recording, Walk};
 use std::alloc::{AllocError, Global};
 use std::marker::Model;
-
-/// The first known time, in nanoseconds; 0 if there is none.
-pub fn start(packets: &[Packet<'_>]) -> u64
-    ensures is { result ≡ start_of (map seen_of packets.now) }
-{
-    for packet in packets {
-        if let Some(time) = packet.time {
-            return time;
-        }
-    }
-    0
-}
 
 /// The unit of 1024 microseconds after the start in which a time lies; 0 if it is earlier or unknown.
 pub fn unit(start: u64, time: Option<u64>) -> u64
@@ -171,7 +158,7 @@ impl<'a> ScriptRest<'a> {
 }
 
 /// The first known time of a capture, in nanoseconds; 0 if there is none.
-fn first_time(alloc: Global, recording: Recording<'_>) -> Result<u64, AllocError>
+pub fn first_time(alloc: Global, recording: Recording<'_>) -> Result<u64, AllocError>
     ensures is { IfOk result (λ time. time ≡ start_of (packets_in recording.entry.bytes.now)) }
 {
     let mut walk = recording.walk(alloc);

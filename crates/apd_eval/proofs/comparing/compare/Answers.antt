@@ -1,33 +1,29 @@
-use Rattle.std.proofs.Common.{rules, ◌≡◌, ◌∙◌, length, map, ap}
-use Rattle.capture.specs.Packets.{seen_of}
-use Rattle.apd_eval.specs.Changes.{change_sums, changes_text}
+use Rattle.std.proofs.Common.{◌≡◌, ◌∙◌, List, refl, sym, subst, ap}
+use Rattle.bpf_helpers.specs.Hooked.{IsFitting}
+use Rattle.bpf_helpers.specs.Tables.{Tables}
+use Rattle.bpf_machine.specs.Verified.{Verified}
+use Rattle.capture.specs.Walks.{packets_in}
+use Rattle.program_judge.specs.Programs.{Programs}
+use Rattle.apd_eval.specs.Metered.{Metered}
+use Rattle.apd_eval.specs.Told.{IsUntold}
+use Rattle.apd_eval.specs.declared.changes.Changes.{Changes}
+use Rattle.apd_eval.specs.declared.tried.Policy.{Policy}
+use Rattle.apd_eval.proofs.Telling.{comparison}
 use Rattle.apd_eval.proofs.comparing.compare.Goals as goal
+
+pub new-contrasts-requires : goal.new-contrasts-requires
+new-contrasts-requires c = record {
+  fitting = subst (λ (m : Metered). IsFitting c.maps.result.now 0 m.held.seats) (sym c.new-meter.ensures.is)
+      (subst (λ (maps : List Tables). IsFitting maps 0 c.in_ok-programs.field-0.state.seats) (sym c.maps.ensures.is) c.in_ok-programs.field-0.fitting);
+}
 
 pub returns : goal.returns
 returns c =
-    let contrasts = c.in_ok-contrasts.contrasts.items in
-    let changes = c.in_ok-changes.changes.items in
-    let packets = map seen_of c.args.replay.packets.now in
-    let bssid = c.args.replay.link.now.bssid in
-    let judged : c.len.result ≡ length contrasts = search rules in
-    let changed : c.len-changed.result ≡ length changes = search rules in
-    let sums : c.as_str.result.now ≡ change_sums c.args.in_force.hook bssid packets (length contrasts) (length changes) c.args.json =
-    c.as_str.ensures.value ∙ (c.in_ok-sums.ensures.is
-    ∙ (ap (λ h. change_sums h bssid packets c.len.result c.len-changed.result c.args.json) c.hook-hook.ensures.is
-    ∙ (ap (λ n. change_sums c.args.in_force.hook bssid packets n c.len-changed.result c.args.json) judged
-    ∙ ap (λ n. change_sums c.args.in_force.hook bssid packets (length contrasts) n c.args.json) changed))) in
+    let s = c.new-contrasts.result in
+    let programs = ap (λ (p : Policy). p.programs.now) c.new-contrasts.ensures.policy ∙ c.in_ok-programs.ensures.programs in
+    let drawn = ap (λ (m : Metered). m.held.draw) c.new-contrasts.ensures.meter ∙ (ap (λ (m : Metered). m.held.draw) c.new-meter.ensures.is ∙ c.in_ok-programs.ensures.draw) in
+    let untold = subst (λ (x : Changes). IsUntold c.args.json x) (sym c.new-contrasts.ensures.changes) c.in_ok-untold.ensures.untold in
     record {
-      is = record {
-        rows = c.in_ok-rows.rows.items;
-        evaluated = c.in_ok-rows.ensures.rows;
-        contrasts = contrasts;
-        again = rw c.as_slice.ensures.value at c.in_ok-contrasts.ensures.contrasts;
-        changes = changes;
-        are_changes = rw c.as_slice-2.ensures.value at c.in_ok-changes.ensures.changes;
-        equal = rw c.as_slice-2.ensures.value at c.in_ok-changes.ensures.equal;
-        differ = search rules;
-        text_is = c.in_ok-text.ensures.is
-            ∙ (ap (λ xs. changes_text xs c.as_str.result.now c.args.json) c.as_slice-3.ensures.value
-            ∙ ap (λ s. changes_text changes s c.args.json) sums);
-      };
+      is = comparison c.args.in_force c.args.tried c.args.replay.draw c.args.replay.link.now (packets_in c.args.replay.recording.bytes.now) c.args.json s c.evaluate.new.sink c.hook-hook.result _ _
+          programs drawn untold c.in_ok-evaluate.ensures.rows c.hook-hook.ensures.is refl c.in_ok-text.ensures.is;
     }

@@ -1,22 +1,25 @@
-use Rattle.std.proofs.Common.{◌∙◌, map, ap}
+use Rattle.std.proofs.Common.{◌≡◌, ◌∙◌, ap}
 use Rattle.std.proofs.lemmas.Result.{IfOk-weaker}
-use Rattle.capture.specs.Packets.{seen_of}
-use Rattle.apd_eval.specs.Sums.{sums_text}
-use Rattle.apd_eval.specs.Table.{table_text}
+use Rattle.capture.specs.Walks.{packets_in}
+use Rattle.apd_eval.specs.Again.{frame_at}
+use Rattle.apd_eval.specs.Evaluated.{judged_by}
+use Rattle.apd_eval.specs.Sums.{Judged}
+use Rattle.apd_eval.specs.Tabled.{TakesRow}
+use Rattle.apd_eval.specs.declared.row.Row.{Row}
+use Rattle.apd_eval.specs.declared.table.Table.{Table}
+use Rattle.apd_eval.proofs.Tabling.{whole, finished, course_is}
 use Rattle.apd_eval.proofs.evaluating.evaluation_text.Goals as goal
 
 pub returns : goal.returns
 returns c =
-    let rows = c.in_ok-rows.rows.items in
-    let packets = map seen_of c.args.replay.packets.now in
-    let bssid = c.args.replay.link.now.bssid in
+    let v = c.args.accepted in
+    let packets = packets_in c.args.replay.recording.bytes.now in
+    let taken = c.in_ok-evaluate.ensures.rows in
+    let all = whole (λ s row frame t. TakesRow s row t) (λ (t : Table). t) (λ s row frame t h. h) (frame_at packets) c.args.json taken.rows c.in_ok-table.table c.evaluate.new.sink c.in_ok-table.ensures.begun taken.taken in
     record {
-      is = IfOk-weaker c.table_text.result _ _ (λ text h. record {
-        rows = rows;
-        evaluated = c.in_ok-rows.ensures.rows;
-        is = h
-            ∙ (ap (λ rs. table_text rs (sums_text (record { hook = c.hook.result; budget = c.budget.result; address = bssid; packets = packets }) rs c.args.json) c.args.json) c.as_slice.ensures.value
-            ∙ (ap (λ k. table_text rows (sums_text (record { hook = k; budget = c.budget.result; address = bssid; packets = packets }) rows c.args.json) c.args.json) c.hook.ensures.is
-            ∙ ap (λ n. table_text rows (sums_text (record { hook = c.args.accepted.hook; budget = n; address = bssid; packets = packets }) rows c.args.json) c.args.json) c.budget.ensures.is));
-      }) c.table_text.ensures.is;
+      is = IfOk-weaker c.finish.result _ _ (λ text h. record {
+        rows = taken.rows;
+        evaluated = taken.evaluated;
+        is = finished c.args.json taken.rows c.evaluate.new.sink _ (judged_by v c.args.replay.link.now packets) _ all (course_is v c.args.replay.link.now packets _ _ c.hook.ensures.is c.budget.ensures.is) h;
+      }) c.finish.ensures.is;
     }
