@@ -8,8 +8,8 @@ ghost use Rattle.apd_program.specs.Verifying.{within};
 ghost use Rattle.apd_words.specs.Asked.{Wanted, text_of};
 ghost use Rattle.apd_words.specs.Spells.{Spells};
 ghost use Rattle.apd_entry.specs.Fulfilled.{Fulfils};
-ghost use Rattle.apd_entry.specs.Captured.{AreWritten, CapturesInPlace, KeepsInPlace, is_in_place, lines_known};
-ghost use Rattle.apd_entry.specs.Forms.{in_lines, RunsLive};
+ghost use Rattle.apd_entry.specs.Captured.{AreWritten, CapturesInPlace, KeepsInPlace, KeepsLiveInPlace, is_in_place, lines_known};
+ghost use Rattle.apd_entry.specs.Forms.{form_named, in_lines, RunsLive};
 
 use crate::destination::{beside, in_place, is_in_place};
 use crate::limits;
@@ -149,6 +149,10 @@ where
         (text_of asked.entry.events) (text_of asked.entry.color)
         (lines_known (text_of asked.entry.capture.path) (O.contents streams.out))
         (lines_known (text_of asked.entry.capture.path) (O.contents result.0)) result.1 }
+    ensures captures { result.1 < 2 → is_in_place (text_of asked.entry.capture.path) ≡ true
+        → KeepsLiveInPlace (AreWritten O.contents)
+        (form_named streams.shown (text_of asked.entry.events) (text_of asked.entry.color))
+        (O.contents streams.out) (O.contents result.0) }
 {
     let Streams {
         input,
@@ -210,7 +214,7 @@ where
     ensures fulfils { (w : Wanted) → Spells (map (λ word. word.now) words.entry.now) w
         → Fulfils streams.shown (F.held files.old) w (O.contents streams.out) (O.contents result.0) result.1 }
     ensures captures { (w : Wanted) → Spells (map (λ word. word.now) words.entry.now) w
-        → result.1 < 2 → CapturesInPlace (AreWritten O.contents) (F.held files.old) w
+        → result.1 < 2 → CapturesInPlace streams.shown (AreWritten O.contents) (F.held files.old) w
         (O.contents streams.out) (O.contents result.0) }
 {
     match read_words(alloc, words) {

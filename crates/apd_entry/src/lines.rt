@@ -1,8 +1,10 @@
 //! Lines as they come on standard input: the command `live`.
 
-ghost use Rattle.std.specs.Prelude.{◌≡◌};
+ghost use Rattle.std.specs.Prelude.{◌≡◌, ◌<◌};
 ghost use Rattle.apd_words.specs.Asked.{text_of};
+ghost use Rattle.apd_driver.specs.Capturing.{AreKnown};
 ghost use Rattle.apd_program.specs.Printed.{fault_status};
+ghost use Rattle.apd_entry.specs.Captured.{KeepsFormed};
 ghost use Rattle.apd_entry.specs.Forms.{colours_named, colours_of, form_named, style_named, style_of, RunsLive};
 
 use crate::limits::within;
@@ -135,6 +137,10 @@ where
         streams.shown asked.entry.strict
         (text_of asked.entry.events) (text_of asked.entry.color)
         (O.contents streams.out) (O.contents result.0) result.1 }
+    ensures keeps { result.1 < 2 → KeepsFormed (AreKnown O.recorded)
+        (form_named streams.shown (text_of asked.entry.events) (text_of asked.entry.color))
+        (O.contents streams.out) (O.contents result.0)
+        (O.recorded streams.out) (O.recorded result.0) }
 {
     let Streams {
         input,

@@ -78,7 +78,7 @@ pub record IsRunOperator {F : Type 0} (shares : ℕ) (ap : Live) (o : RunOperato
 -- what an operator works with, where this is known of its files, and what it has done
 abbrev pub work_of : {F : Type 0} → (F → Held) → RunOperator F → Work
 work_of held o =
-    record { files = held o.files; limits = o.limits; config = o.config; puts = puts_of o.token.lines; histories = histories_of o.token.shards; loads = o.loads }
+    record { files = held o.files; limits = o.limits; config = o.config; maps = o.ap.stock.maps; seats = o.token.seats; puts = puts_of o.token.lines; histories = histories_of o.token.shards; loads = o.loads }
 
 -- how many workers have rights, what those that came back have counted, and what the operator has done
 abbrev pub crew_of : {F : Type 0} → (F → Held) → RunOperator F → Crew live

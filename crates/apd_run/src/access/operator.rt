@@ -1,6 +1,6 @@
 //! The operator of a run.
 
-ghost use Rattle.std.specs.Prelude.{◌≡◌, ◌<◌, map, IfOk, IfSome, Some};
+ghost use Rattle.std.specs.Prelude.{◌≡◌, ◌<◌, map, IfOk, IfSome, None, Some};
 ghost use Rattle.ap_books.specs.Counts.{none};
 ghost use Rattle.ap_books.specs.Reading.{Reads};
 ghost use Rattle.ap_live.specs.Counting.{counted_by, tally};
@@ -9,8 +9,8 @@ ghost use Rattle.hook_judge.specs.Sums.{no_counts};
 ghost use Rattle.apd_run.specs.InForce.{budget_shown, budgets_of, row_shown, rows_of, with_counts};
 ghost use Rattle.apd_run.specs.Hands.{crew_of, work_of};
 ghost use Rattle.apd_run.specs.Deciding.{Accounts, TookOf};
-ghost use Rattle.apd_run.specs.Work.{Does, IsWord, Meets};
-ghost use Rattle.apd_script.specs.Asked.{Adopt, Load, Unload};
+ghost use Rattle.apd_run.specs.Work.{Does, Meets};
+ghost use Rattle.apd_script.specs.Asked.{Adopt, Load, Read, Store, Sum, Unload};
 ghost use Rattle.apd_driver.specs.Tallies.{told_counts};
 ghost use Rattle.apd_driver.specs.Crews.{Works, gains, with_one_more};
 
@@ -157,7 +157,9 @@ impl<'a, B: Ledgers + Journals, L: Names, F: Files> LiveOperator<'a, B, L, F> {
 
     /// Stores a number in a word of a shared map, if there is such a word.
     fn store(&mut self, at: MapWord, value: u64)
-        ensures same { crew_of F.held self.new ≡ crew_of F.held self.old }
+        ensures works { Works (crew_of F.held self.old) (crew_of F.held self.new) }
+        ensures does { Does (work_of F.held self.old) (work_of F.held self.new)
+            (Store at value) None }
     {
         let map = at.map as usize;
         if !self.ap.has_word(Scope::Shared, map, at.word) {
@@ -168,8 +170,8 @@ impl<'a, B: Ledgers + Journals, L: Names, F: Files> LiveOperator<'a, B, L, F> {
 
     /// The number in a word of a shared map, if there is such a word.
     fn read(&mut self, at: MapWord) -> Option<Told>
-        ensures same { crew_of F.held self.new ≡ crew_of F.held self.old }
-        ensures value { IfSome result IsWord }
+        ensures works { Works (crew_of F.held self.old) (crew_of F.held self.new) }
+        ensures does { Does (work_of F.held self.old) (work_of F.held self.new) (Read at) result }
         ensures nothing { IfSome result (λ told. told_counts told ≡ none) }
     {
         let map = at.map as usize;
@@ -182,8 +184,8 @@ impl<'a, B: Ledgers + Journals, L: Names, F: Files> LiveOperator<'a, B, L, F> {
 
     /// The sum of a word of a worker map over all workers, if there is such a word.
     fn sum(&mut self, at: MapWord) -> Option<Told>
-        ensures same { crew_of F.held self.new ≡ crew_of F.held self.old }
-        ensures value { IfSome result IsWord }
+        ensures works { Works (crew_of F.held self.old) (crew_of F.held self.new) }
+        ensures does { Does (work_of F.held self.old) (work_of F.held self.new) (Sum at) result }
         ensures nothing { IfSome result (λ told. told_counts told ≡ none) }
     {
         let map = at.map as usize;

@@ -24,7 +24,7 @@ invariant_of-worker g c =
 
 pub returns-clause-same : goal.returns-clause-same
 returns-clause-same g c =
-    same_puts g.F.Files.held _ _ c.meet_alone.new.operator _ c.self.view_is c.deref_mut-token.ensures.value c.meet_alone.ensures.put (ap (λ (o : Operator). o.shards) c.meet_alone.ensures.same_operator)
+    same_puts g.F.Files.held _ _ c.meet_alone.new.operator _ c.self.view_is c.deref_mut-token.ensures.value c.meet_alone.ensures.put c.meet_alone.ensures.same_operator
 
 pub returns-clause-took : goal.returns-clause-took
 returns-clause-took g c = took_alone c.deref_mut-token.result.now.lines c.meet_alone.new.operator.lines _ _ c.meet_alone.ensures.put c.meet_alone.ensures.same c.meet_alone.ensures.taken c.meet_alone.ensures.order
