@@ -1,5 +1,6 @@
 -- What an operator's calls do to what contracts see of it.
-use Rattle.std.proofs.Common.{◌≡◌, ◌+◌, ◌-◌, ◌<◌, ◌≤◌, ℕ, zero, suc, List, Option, Some, None, refl, sym, ap, subst, ◌∙◌, arith, add-zero}
+use Rattle.std.proofs.Common.{◌≡◌, ◌+◌, ◌-◌, ◌<◌, ◌≤◌, ℕ, zero, suc, List, Option, Some, None, refl, slice_set, sym, ap, subst, ◌∙◌, arith, add-zero}
+use Rattle.std.specs.Prelude.{slice_index_or}
 use Rattle.bpf_regions.specs.declared.hooks.Hook.{Hook}
 use Rattle.versions.specs.Lists.{Beginning, with_load}
 use Rattle.versions.specs.Sets.{load}
@@ -30,7 +31,7 @@ use Rattle.apd_driver.specs.declared.actions.Publication.{Publication}
 use Rattle.apd_driver.specs.declared.actions.WordUse.{WordUse}
 use Rattle.apd_driver.specs.declared.operating.Waiting.{Waiting}
 use Rattle.apd_run.specs.Adopting.{AdoptsFiles}
-use Rattle.apd_run.specs.Hands.{RunOperator, crew_of, work_of}
+use Rattle.apd_run.specs.Hands.{RunOperator, claims, crew_of, work_of}
 use Rattle.apd_run.specs.Loading.{LoadsFile}
 use Rattle.apd_files.specs.Held.{Held, path_of}
 use Rattle.apd_run.specs.Deciding.{histories_of}
@@ -252,12 +253,13 @@ module _ {F : Type 0} (held : F → Held) where
   pub told_crew : (o old : RunOperator F) (b : Beginning) → o ≡ old → b ≡ o.loads → crew_of held (record o { loads = b }) ≡ crew_of held old
   told_crew o old b is same = ap (λ (x : Beginning). crew_of held (record o { loads = x })) same ∙ ap (crew_of held) is
 
-  -- counts that were taken over
-  pub gained_crew : (o old : RunOperator F) (hoard : Holding) (counted : Counts) → o ≡ old → sum_of hoard ≡ plus (sum_of o.hoard) counted
-      → crew_of held (record o { hoard = hoard }) ≡ gains (crew_of held old) counted
-  gained_crew o old hoard counted is more =
-      let crew : crew_of held (record o { hoard = hoard }) ≡ gains (crew_of held o) counted = λ i. record { workers = o.workers; counted = more i; work = work_of held o } in
-      crew ∙ ap (λ (x : RunOperator F). gains (crew_of held x) counted) is
+  -- counts were taken over, and what became of events
+  pub claimed_crew : (o old : RunOperator F) (hoard : Holding) (counted : Counts) (taken : List ℕ) (number many : ℕ) → o ≡ old → sum_of hoard ≡ plus (sum_of o.hoard) counted
+      → taken ≡ slice_set o.taken number (slice_index_or o.taken number 0 + many) → crew_of held (record o { hoard = hoard; taken = taken }) ≡ gains (claims (crew_of held old) number many) counted
+  claimed_crew o old hoard counted taken number many is more note =
+      let crew : crew_of held (record o { hoard = hoard; taken = taken }) ≡ gains (claims (crew_of held o) number many) counted =
+      λ i. record { workers = o.workers; counted = more i; work = record (work_of held o) { taken = note i } } in
+      crew ∙ ap (λ (x : RunOperator F). gains (claims (crew_of held x) number many) counted) is
 
 -- an operator that did nothing
 pub works_same : (c d : Crew live) → d ≡ c → Works c d

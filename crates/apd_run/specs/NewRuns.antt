@@ -12,13 +12,14 @@ use Rattle.apd_driver.specs.declared.manner.Manner.{Manner}
 use Rattle.apd_run.specs.Work.{live}
 
 -- An operator that works with these files, as far as they are known, within these limits. There is a worker. Nothing was
--- counted yet, no queue of a worker got an event, and nothing is published.
+-- counted or taken over yet, no queue of a worker got an event, and nothing is published.
 pub record IsNewCrew (files : Held) (limits : Limits) (c : Crew live) : Type 0 where
   pub some : 0 < c.workers
   pub nothing : c.counted ≡ none
   pub files_are : c.work.files ≡ files
   pub limits_are : c.work.limits ≡ limits
   pub unput : c.work.puts ≡ replicate c.workers []
+  pub untaken : c.work.taken ≡ replicate 8 0
   pub no_loads : c.work.loads.loads ≡ []
 
 -- a run of these lines, if they are known: it doesn't begin, and nothing is printed, or a new operator follows them

@@ -8,7 +8,7 @@ ghost use Rattle.ap_live.specs.Opening.{parts_in_all};
 ghost use Rattle.ap_live.specs.Tokens.{IsWorker};
 ghost use Rattle.ap_shards.specs.Opening.{AreNamed};
 ghost use Rattle.ap_shards.specs.Pages.{HasPages};
-ghost use Rattle.apd_run.specs.Dealing.{AreHands, AreRest, IsNewOperator, IsNewWorker};
+ghost use Rattle.apd_run.specs.Dealing.{AreHands, AreNumberedFrom, AreRest, IsNewOperator, IsNewWorker};
 ghost use Rattle.apd_run.specs.Hands.{crew_of};
 ghost use Rattle.apd_driver.specs.Captures.{KeepsWhole};
 ghost use Rattle.apd_driver.specs.Shows.{IsBroken};
@@ -79,18 +79,22 @@ where
     G: Gate + Copy,
     requires own { All (IsWorker ap.now) tokens.items }
     requires new { All IsNewWorker tokens.items }
+    requires numbered { AreNumberedFrom 0 tokens.items }
     requires named { ap.now ≡ L.ap }
     ensures many { IfOk result (λ ready. vec_len ready ≡ vec_len tokens) }
 {
     let mut tokens = tokens;
     let mut ready = Vec::with_capacity(alloc, tokens.len())?;
     'tokens: while let Some(token) = tokens.pop() {
+        let number = tokens.len();
         ready.push_reserved(Ready {
             worker: LiveWorker {
                 ap,
                 alloc,
                 gate,
+                number,
                 token,
+                given: 0,
                 handled: Vec::new(alloc),
                 list: PhantomData,
             },
@@ -142,6 +146,7 @@ where
         pages,
         parts,
         passes,
+        taken: [0; 8],
         totals: Totals::new(),
         workers,
         loads,

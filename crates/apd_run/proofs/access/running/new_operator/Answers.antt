@@ -9,5 +9,6 @@ returns-clause-new g c =
       files_are = refl;
       limits_are = refl;
       unput = c.requires.new.unput ∙ ap (λ (n : ℕ). replicate n []) c.requires.each;
+      untaken = refl;
       no_loads = c.requires.no_loads;
     }

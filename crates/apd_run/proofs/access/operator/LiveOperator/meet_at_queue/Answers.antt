@@ -19,7 +19,7 @@ invariant_of-self g c =
 pub invariant_of-worker : goal.invariant_of-worker
 invariant_of-worker g c =
     let t : Worker = c.meet_alone.new.worker in
-    same_parts _ _ t (subst (λ (a : Live). IsWorker a t) (c.self.invariant.ap_is ∙ sym c.worker.invariant.ap_is) c.meet_alone.ensures.worker) c.meet_alone.ensures.taken
+    same_parts _ _ t (subst (λ (a : Live). IsWorker a t) (c.self.invariant.ap_is ∙ sym c.worker.invariant.ap_is) c.meet_alone.ensures.worker) (ap (λ (w : Worker). w.number) c.meet_alone.ensures.same) c.meet_alone.ensures.taken
     (ap (λ (w : Worker). w.shards) c.meet_alone.ensures.same) c.worker.invariant
 
 pub returns-clause-same : goal.returns-clause-same
