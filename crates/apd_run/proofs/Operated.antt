@@ -109,7 +109,7 @@ module _ {F : Type 0} (held : F → Held) where
       subst (λ (k : ℕ). PutsFrom live line e k (work_of held old) (shard_end e) (work_of held (record o { token = t }))) there (put_all o old t m line e is token still put)
 
   -- and waits at another
-  pub waits_work : (queues : List EventQueue) (o old : RunOperator F) (t m : Operator) (line : ℕ) (e : Event) (first count : ℕ) (u : Unserved) (w : Waiting) → o ≡ old → m ≡ o.token → t.shards ≡ m.shards
+  pub waits_work : (queues : List EventQueue) (o old : RunOperator F) (t m : Operator) (line : ℕ) (e : Event) (first count : ℕ) (u : Unserved) (w : Waiting) → o ≡ old → m ≡ o.token → t ≡ record m { lines = t.lines }
       → StopsAt queues m.lines t.lines line e first count u → first_shard e ≤ first → first + count ≡ shard_end e → w ≡ record { event = u.event; shard = u.shard }
       → WaitsAt live line e first (work_of held old) (work_of held (record o { token = t })) w
   waits_work queues o old t m line e first count u w is token still h low end back =
@@ -124,7 +124,7 @@ module _ {F : Type 0} (held : F → Held) where
       subst (λ (x : Waiting). WaitsAt live line e first (work_of held old) (work_of held (record o { token = t })) x) (sym back) waits
 
   -- the same after all that it concerns
-  pub waits_all : (queues : List EventQueue) (o old : RunOperator F) (t m : Operator) (line : ℕ) (e : Event) (u : Unserved) (w : Waiting) → o ≡ old → m ≡ o.token → t.shards ≡ m.shards
+  pub waits_all : (queues : List EventQueue) (o old : RunOperator F) (t m : Operator) (line : ℕ) (e : Event) (u : Unserved) (w : Waiting) → o ≡ old → m ≡ o.token → t ≡ record m { lines = t.lines }
       → StopsAt queues m.lines t.lines line e (queue.first_shard e) (shard_count e) u → w ≡ record { event = u.event; shard = u.shard }
       → WaitsAt live line e (first_shard e) (work_of held old) (work_of held (record o { token = t })) w
   waits_all queues o old t m line e u w is token still h back =
@@ -212,17 +212,17 @@ module _ {F : Type 0} (held : F → Held) where
       (work.Sums word _ (IsSummed value (subst (λ (x : Operator). Sums o.ap.stock.maps x.seats word.map word.word value t.seats) token made)) (with_more o t m token same))
 
   -- there is no such word
-  pub stores_nothing : (o old : RunOperator F) (word : MapWord) (value : ℕ) → o ≡ old → (Names scope.Shared o.ap.stock.maps word.map word.word → ⊥) → Does (work_of held old) (work_of held o) (Store word value) None
+  pub stores_nothing : (o old : RunOperator F) (word : MapWord) (value : ℕ) → o ≡ old → (Names scope.Shared o.ap.stock.maps word.map word.word → ⊥) → Does (work_of held old) (work_of held old) (Store word value) None
   stores_nothing o old word value is nowhere =
-      subst (λ (x : RunOperator F). Does (work_of held x) (work_of held o) (Store word value) None) is (work.Stores word value (NoneStored (record { nowhere = nowhere }) refl) refl)
+      subst (λ (x : RunOperator F). Does (work_of held x) (work_of held x) (Store word value) None) is (work.Stores word value (NoneStored (record { nowhere = nowhere }) refl) refl)
 
-  pub reads_nothing : (o old : RunOperator F) (word : MapWord) → o ≡ old → (Names scope.Shared o.ap.stock.maps word.map word.word → ⊥) → Does (work_of held old) (work_of held o) (Read word) None
+  pub reads_nothing : (o old : RunOperator F) (word : MapWord) → o ≡ old → (Names scope.Shared o.ap.stock.maps word.map word.word → ⊥) → Does (work_of held old) (work_of held old) (Read word) None
   reads_nothing o old word is nowhere =
-      subst (λ (x : RunOperator F). Does (work_of held x) (work_of held o) (Read word) None) is (work.Reads word _ (NoneRead (record { nowhere = nowhere }) refl) refl)
+      subst (λ (x : RunOperator F). Does (work_of held x) (work_of held x) (Read word) None) is (work.Reads word _ (NoneRead (record { nowhere = nowhere }) refl) refl)
 
-  pub sums_nothing : (o old : RunOperator F) (word : MapWord) → o ≡ old → (Names scope.Worker o.ap.stock.maps word.map word.word → ⊥) → Does (work_of held old) (work_of held o) (Sum word) None
+  pub sums_nothing : (o old : RunOperator F) (word : MapWord) → o ≡ old → (Names scope.Worker o.ap.stock.maps word.map word.word → ⊥) → Does (work_of held old) (work_of held old) (Sum word) None
   sums_nothing o old word is nowhere =
-      subst (λ (x : RunOperator F). Does (work_of held x) (work_of held o) (Sum word) None) is (work.Sums word _ (NoneSummed (record { nowhere = nowhere }) refl) refl)
+      subst (λ (x : RunOperator F). Does (work_of held x) (work_of held x) (Sum word) None) is (work.Sums word _ (NoneSummed (record { nowhere = nowhere }) refl) refl)
 
   -- ---- what stays
 
