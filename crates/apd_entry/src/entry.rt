@@ -35,6 +35,7 @@ pub struct Messages<'a, E> {
 
 /// What a run of a script is given.
 fn words_of<'a>(asked: ScriptRun<'a>) -> RunWords<'a>
+    ensures config { result.config.now ≡ asked.entry.config.now }
     ensures manner { result.manner ≡ in_lines asked.entry.strict }
     ensures script { result.script.now ≡ asked.entry.script.now }
 {
@@ -67,7 +68,7 @@ where
     P: Recording + Drop,
     E: Write,
     ensures runs { RunsScript (F.held files.old) (within asked.entry.states asked.entry.work)
-        asked.entry.script.now (in_lines asked.entry.strict)
+        asked.entry.config.now asked.entry.script.now (in_lines asked.entry.strict)
         (P.contents out) (P.contents result.0) result.1 }
     ensures keeps { result.1 < 2 → KeepsScript (F.held files.old) asked.entry.script.now
         (AreKnown P.recorded) (in_lines asked.entry.strict).form
@@ -108,7 +109,7 @@ where
     O: Write + Drop,
     E: Write,
     ensures runs { RunsScript (F.held files.old) (within asked.entry.states asked.entry.work)
-        asked.entry.script.now (in_lines asked.entry.strict)
+        asked.entry.config.now asked.entry.script.now (in_lines asked.entry.strict)
         (lines_known (text_of asked.entry.capture.path) (O.contents out))
         (lines_known (text_of asked.entry.capture.path) (O.contents result.0)) result.1 }
     ensures captures { result.1 < 2 → is_in_place (text_of asked.entry.capture.path) ≡ true
@@ -145,7 +146,7 @@ where
     O: Write + Drop,
     E: Write,
     ensures runs { RunsLive (F.held files.old) asked.entry.states asked.entry.work
-        streams.shown asked.entry.strict
+        asked.entry.config.now streams.shown asked.entry.strict
         (text_of asked.entry.events) (text_of asked.entry.color)
         (lines_known (text_of asked.entry.capture.path) (O.contents streams.out))
         (lines_known (text_of asked.entry.capture.path) (O.contents result.0)) result.1 }

@@ -101,6 +101,7 @@ fn unformed(events: Option<&str>) -> ProgramFault
 
 /// What a run of lines as they come is given. A prompt asks for lines if somebody types them.
 fn words_of<'a>(asked: LiveRun<'a>, form: Form, typed: bool) -> RunWords<'a>
+    ensures config { result.config.now ≡ asked.entry.config.now }
     ensures manner { result.manner ≡ record { strict = asked.entry.strict; form = form } }
 {
     RunWords {
@@ -134,7 +135,7 @@ where
     O: Recording + Drop,
     E: Write,
     ensures runs { RunsLive (F.held files.old) asked.entry.states asked.entry.work
-        streams.shown asked.entry.strict
+        asked.entry.config.now streams.shown asked.entry.strict
         (text_of asked.entry.events) (text_of asked.entry.color)
         (O.contents streams.out) (O.contents result.0) result.1 }
     ensures keeps { result.1 < 2 → KeepsFormed (AreKnown O.recorded)

@@ -130,7 +130,7 @@ where
     requires list { loads.old.list ≡ L.ap.list.list }
     requires no_loads { loads.old.loads ≡ [] }
     ensures workers { (crew_of F.held result).workers ≡ workers }
-    ensures new { IsNewCrew (F.held sources.entry.files.now) sources.entry.limits
+    ensures new { IsNewCrew (F.held sources.entry.files.now) sources.entry.limits B.config
         (crew_of F.held result) }
 {
     let Kept {
@@ -184,7 +184,7 @@ where
     requires named { ap.now ≡ L.ap }
     requires loads { equipment.loads.list ≡ L.ap.list.list }
     requires no_loads { equipment.loads.loads ≡ [] }
-    ensures runs { RunsNew (F.held supplies.entry.files.now) supplies.entry.limits
+    ensures runs { RunsNew (F.held supplies.entry.files.now) supplies.entry.limits B.config
         (P.manner writer) (S.script lines) (P.contents writer) (P.contents result.0) result.1 }
     ensures keeps { result.1 < 2 → KeepsWhole (P.manner writer).form (S.script lines)
         (P.contents writer) (P.contents result.0)
@@ -243,7 +243,8 @@ where
     requires config { opening.settings.link ≡ B.config }
     requires shares { B.shares ≡ parts_in_all }
     ensures runs { RunsNew (F.held supplies.entry.files.now) supplies.entry.limits
-        (P.manner writer) (S.script lines) (P.contents writer) (P.contents result.0) result.1 }
+        opening.settings.link (P.manner writer) (S.script lines)
+        (P.contents writer) (P.contents result.0) result.1 }
     ensures keeps { result.1 < 2 → KeepsWhole (P.manner writer).form (S.script lines)
         (P.contents writer) (P.contents result.0)
         (P.recorded writer) (P.recorded result.0) }
