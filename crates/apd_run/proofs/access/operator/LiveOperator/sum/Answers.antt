@@ -14,4 +14,4 @@ pub returns-clause-does : goal.returns-clause-does
 returns-clause-does g c = sum_does g.F.Files.held _ _ c.sum-value.new.operator _ _ _ c.self.view_is c.deref_mut.ensures.value c.sum-value.ensures.same c.sum-value.ensures.made
 
 pub returns-then-not-has_word-clause-does : goal.returns-then-not-has_word-clause-does
-returns-then-not-has_word-clause-does g c = sums_nothing g.F.Files.held _ _ _ c.self.view_is (λ there. c.if-not-has_word.ensures.1 there)
+returns-then-not-has_word-clause-does g c = sums_nothing g.F.Files.held _ _ _ c.self.view_is (λ there. let h = c.if-not-has_word.ensures.1 there in absurd (cc))
