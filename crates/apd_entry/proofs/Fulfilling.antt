@@ -14,7 +14,7 @@ use Rattle.apd_entry.proofs.Formed.{lives_nothing}
 Fulfils-nothing : (shown : Bool) (files : Held) (w : Wanted) (o : Option (List ℕ)) → Fulfils shown files w o o 3
 Fulfils-nothing shown files (AnswerWanted a output) o = Exhausted (Keeps-same o)
 Fulfils-nothing shown files (RunWanted config script workers states work quiet strict verbose capture replaces) o = NotRead 3 refl (inr refl)
-Fulfils-nothing shown files (LiveWanted config workers states work strict verbose clock events color capture replaces) o = lives_nothing files states work shown strict events color (lines_known capture o) 3 (inr refl)
+Fulfils-nothing shown files (LiveWanted config workers states work strict verbose clock events color capture replaces) o = lives_nothing files states work config shown strict events color (lines_known capture o) 3 (inr refl)
 
 -- words that always make a request are reported only for lack of memory
 pub Fulfils-told : (shown : Bool) (files : Held) (w : Wanted) (t : Told) (old new : Option (List ℕ)) (status : ℕ) → t ≡ told.NoMemory → Tells t old new status → Fulfils shown files w old new status

@@ -7,7 +7,7 @@ use Rattle.apd_driver.specs.declared.reports.report.Style.TheVariants.{Lines, No
 use Rattle.apd_driver.specs.Shows.{IsBroken}
 use Rattle.apd_driver.specs.declared.manner.Manner.{Manner}
 use Rattle.apd_files.specs.Held.{Held}
-use Rattle.apd_run.specs.NewRuns.{RunsNew}
+use Rattle.apd_run.specs.NewRuns.{RunsInput}
 use Rattle.apd_program.specs.Verifying.{within}
 
 -- a run that prints lines, without colours
@@ -47,14 +47,14 @@ form_of None colours = None
 abbrev pub form_named : Bool → Option (List ℕ) → Option (List ℕ) → Option Form
 form_named shown events color = form_of (style_of events) (colours_of shown color)
 
--- lines run as they come, in this form, with these files and limits; without a form nothing is written, and the status is
--- that of a fault
-abbrev pub RunsFormed : Held → ℕ → Option ℕ → Bool → Option Form → Option (List ℕ) → Option (List ℕ) → ℕ → Type 0
-RunsFormed files states work strict None old new status = (new ≡ old) × IsBroken status
-RunsFormed files states work strict (Some form) old new status =
-    RunsNew files (within states work) (record { strict = strict; form = form }) None old new status
+-- lines run as they come, in this form, with these files and limits, under the configuration in the file at this path;
+-- without a form nothing is written, and the status is that of a fault
+abbrev pub RunsFormed : Held → ℕ → Option ℕ → List ℕ → Bool → Option Form → Option (List ℕ) → Option (List ℕ) → ℕ → Type 0
+RunsFormed files states work config strict None old new status = (new ≡ old) × IsBroken status
+RunsFormed files states work config strict (Some form) old new status =
+    RunsInput files (within states work) config (record { strict = strict; form = form }) old new status
 
 -- the same in the form that `--events` and `--color` name
-abbrev pub RunsLive : Held → ℕ → Option ℕ → Bool → Bool → Option (List ℕ) → Option (List ℕ) → Option (List ℕ) → Option (List ℕ) → ℕ → Type 0
-RunsLive files states work shown strict events color old new status =
-    RunsFormed files states work strict (form_named shown events color) old new status
+abbrev pub RunsLive : Held → ℕ → Option ℕ → List ℕ → Bool → Bool → Option (List ℕ) → Option (List ℕ) → Option (List ℕ) → Option (List ℕ) → ℕ → Type 0
+RunsLive files states work config shown strict events color old new status =
+    RunsFormed files states work config strict (form_named shown events color) old new status

@@ -8,8 +8,8 @@ ghost use Rattle.apd_program.specs.Verifying.{within};
 ghost use Rattle.apd_words.specs.Asked.{Wanted, text_of};
 ghost use Rattle.apd_words.specs.Spells.{Spells};
 ghost use Rattle.apd_entry.specs.Fulfilled.{Fulfils};
-ghost use Rattle.apd_entry.specs.Captured.{AreWritten, CapturesInPlace, KeepsInPlace, is_in_place, lines_known};
-ghost use Rattle.apd_entry.specs.Forms.{in_lines, RunsLive};
+ghost use Rattle.apd_entry.specs.Captured.{AreWritten, CapturesInPlace, KeepsInPlace, KeepsLiveInPlace, is_in_place, lines_known};
+ghost use Rattle.apd_entry.specs.Forms.{form_named, in_lines, RunsLive};
 
 use crate::destination::{beside, in_place, is_in_place};
 use crate::limits;
@@ -35,6 +35,7 @@ pub struct Messages<'a, E> {
 
 /// What a run of a script is given.
 fn words_of<'a>(asked: ScriptRun<'a>) -> RunWords<'a>
+    ensures config { result.config.now ≡ asked.entry.config.now }
     ensures manner { result.manner ≡ in_lines asked.entry.strict }
     ensures script { result.script.now ≡ asked.entry.script.now }
 {
@@ -67,7 +68,7 @@ where
     P: Recording + Drop,
     E: Write,
     ensures runs { RunsScript (F.held files.old) (within asked.entry.states asked.entry.work)
-        asked.entry.script.now (in_lines asked.entry.strict)
+        asked.entry.config.now asked.entry.script.now (in_lines asked.entry.strict)
         (P.contents out) (P.contents result.0) result.1 }
     ensures keeps { result.1 < 2 → KeepsScript (F.held files.old) asked.entry.script.now
         (AreKnown P.recorded) (in_lines asked.entry.strict).form
@@ -108,7 +109,7 @@ where
     O: Write + Drop,
     E: Write,
     ensures runs { RunsScript (F.held files.old) (within asked.entry.states asked.entry.work)
-        asked.entry.script.now (in_lines asked.entry.strict)
+        asked.entry.config.now asked.entry.script.now (in_lines asked.entry.strict)
         (lines_known (text_of asked.entry.capture.path) (O.contents out))
         (lines_known (text_of asked.entry.capture.path) (O.contents result.0)) result.1 }
     ensures captures { result.1 < 2 → is_in_place (text_of asked.entry.capture.path) ≡ true
@@ -145,10 +146,14 @@ where
     O: Write + Drop,
     E: Write,
     ensures runs { RunsLive (F.held files.old) asked.entry.states asked.entry.work
-        streams.shown asked.entry.strict
+        asked.entry.config.now streams.shown asked.entry.strict
         (text_of asked.entry.events) (text_of asked.entry.color)
         (lines_known (text_of asked.entry.capture.path) (O.contents streams.out))
         (lines_known (text_of asked.entry.capture.path) (O.contents result.0)) result.1 }
+    ensures captures { result.1 < 2 → is_in_place (text_of asked.entry.capture.path) ≡ true
+        → KeepsLiveInPlace (AreWritten O.contents)
+        (form_named streams.shown (text_of asked.entry.events) (text_of asked.entry.color))
+        (O.contents streams.out) (O.contents result.0) }
 {
     let Streams {
         input,
@@ -210,7 +215,7 @@ where
     ensures fulfils { (w : Wanted) → Spells (map (λ word. word.now) words.entry.now) w
         → Fulfils streams.shown (F.held files.old) w (O.contents streams.out) (O.contents result.0) result.1 }
     ensures captures { (w : Wanted) → Spells (map (λ word. word.now) words.entry.now) w
-        → result.1 < 2 → CapturesInPlace (AreWritten O.contents) (F.held files.old) w
+        → result.1 < 2 → CapturesInPlace streams.shown (AreWritten O.contents) (F.held files.old) w
         (O.contents streams.out) (O.contents result.0) }
 {
     match read_words(alloc, words) {

@@ -1,8 +1,10 @@
 //! Lines as they come on standard input: the command `live`.
 
-ghost use Rattle.std.specs.Prelude.{◌≡◌};
+ghost use Rattle.std.specs.Prelude.{◌≡◌, ◌<◌};
 ghost use Rattle.apd_words.specs.Asked.{text_of};
+ghost use Rattle.apd_driver.specs.Capturing.{AreKnown};
 ghost use Rattle.apd_program.specs.Printed.{fault_status};
+ghost use Rattle.apd_entry.specs.Captured.{KeepsFormed};
 ghost use Rattle.apd_entry.specs.Forms.{colours_named, colours_of, form_named, style_named, style_of, RunsLive};
 
 use crate::limits::within;
@@ -99,6 +101,7 @@ fn unformed(events: Option<&str>) -> ProgramFault
 
 /// What a run of lines as they come is given. A prompt asks for lines if somebody types them.
 fn words_of<'a>(asked: LiveRun<'a>, form: Form, typed: bool) -> RunWords<'a>
+    ensures config { result.config.now ≡ asked.entry.config.now }
     ensures manner { result.manner ≡ record { strict = asked.entry.strict; form = form } }
 {
     RunWords {
@@ -132,9 +135,13 @@ where
     O: Recording + Drop,
     E: Write,
     ensures runs { RunsLive (F.held files.old) asked.entry.states asked.entry.work
-        streams.shown asked.entry.strict
+        asked.entry.config.now streams.shown asked.entry.strict
         (text_of asked.entry.events) (text_of asked.entry.color)
         (O.contents streams.out) (O.contents result.0) result.1 }
+    ensures keeps { result.1 < 2 → KeepsFormed (AreKnown O.recorded)
+        (form_named streams.shown (text_of asked.entry.events) (text_of asked.entry.color))
+        (O.contents streams.out) (O.contents result.0)
+        (O.recorded streams.out) (O.recorded result.0) }
 {
     let Streams {
         input,

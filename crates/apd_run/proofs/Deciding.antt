@@ -1,18 +1,17 @@
 -- What became of a worker's events, and the histories of the shards.
-use Rattle.std.proofs.Common.{◌≡◌, ◌<◌, ℕ, Bool, true, false, List, [], ◌∷◌, ◌++◌, map, refl, sym, ap, subst, ◌∙◌, append_assoc, append-nil}
+use Rattle.std.proofs.Common.{◌≡◌, ◌+◌, ◌<◌, ℕ, Bool, true, false, List, [], ◌∷◌, ◌++◌, length, map, refl, sym, ap, subst, ◌∙◌, append_assoc, append-nil}
 use Rattle.std.specs.Prelude.{◌==◌, slice_index_or}
 use Rattle.std.specs.List.{All}
-use Rattle.std.proofs.lemmas.List.{map-append}
+use Rattle.std.proofs.lemmas.List.{length-append, length-map, map-append}
 use Rattle.std.proofs.lemmas.List.Elements.{All-append, All-cons, All-nil, All-same}
 use mathlib.Core.List.{IsPrefix}
 use Rattle.ap_model.specs.declared.event.Event.{Event}
-use Rattle.ap_model.specs.declared.event.Out.{Out}
 use Rattle.ap_model.specs.Asks.{Ask}
 use Rattle.ap_model.specs.Readings.{Config, Readings, Rules}
 use Rattle.ap_model.specs.Runs.{Entry}
 use Rattle.ap_core.specs.Handles.{rules}
 use Rattle.ap_locked.specs.Kept.{entry_of}
-use Rattle.ap_locked.specs.Tokens.{IsAmong, KeepsOwn, Token}
+use Rattle.ap_locked.specs.Tokens.{IsAmong, Token}
 use Rattle.ap_queues.specs.declared.item.Queued.{Queued}
 use Rattle.ap_shards.specs.Fates.{ChangesIf, Comes}
 use Rattle.ap_shards.specs.Judged.{JudgedBy}
@@ -116,12 +115,13 @@ module _ (config : Config) (a : Live) (worker : ℕ) where
   all_concern p (x ∷ xs) [] q r = absurd r
 
 -- a worker that served more
-pub accounts_more : (config : Config) (a : Live) (w w2 : Worker) (l l2 : List Tagged) → Served config a w w2 l l2 → Accounts w l → Accounts w2 l2
-accounts_more config a w w2 l l2 s h =
+pub accounts_more : (config : Config) (a : Live) (w w2 : Worker) (l l2 : List Tagged) → Served config a w w2 l l2 → (given : ℕ) → Accounts given w l → Accounts given w2 l2
+accounts_more config a w w2 l l2 s given h =
     let more : All Concerns s.tags = all_concern config a w.number (progress_of w) s.items s.tags (progress_of w2) s.served in
     let items : items_in s.tags ≡ items_of s.items = same_items config a w.number (progress_of w) s.items s.tags (progress_of w2) s.served in
     record {
       before = h.before;
+      first = h.first;
       items = h.items ++ s.items;
       taken = s.took ∙ (ap (λ (x : List Queued). x ++ s.items) h.taken ∙ append_assoc h.before h.items s.items);
       same = ap items_in s.listed
@@ -138,11 +138,12 @@ accounts_more config a w w2 l l2 s h =
           (All-append WasJudged (token_at n w.shards).own d.entries (h.judged n low) d.judged);
     }
 
--- a worker without entries of its own, and without events
-pub accounts_none : (w : Worker) (l : List Tagged) → l ≡ [] → ((s : ℕ) → s < 8 → (token_at s w.shards).own ≡ []) → Accounts w l
-accounts_none w l empty none =
+-- a worker without entries of its own, and without events, which took this many items
+pub accounts_none : (given : ℕ) (w : Worker) (l : List Tagged) → length (taken_by w.pass) ≡ given → l ≡ [] → ((s : ℕ) → s < 8 → (token_at s w.shards).own ≡ []) → Accounts given w l
+accounts_none given w l many empty none =
     record {
       before = taken_by w.pass;
+      first = many;
       items = [];
       taken = sym (append-nil (taken_by w.pass));
       same = ap items_in empty;
@@ -152,10 +153,11 @@ accounts_none w l empty none =
     }
 
 -- a worker that took nothing more, with the same entries of its own
-pub accounts_same : (w w2 : Worker) (l : List Tagged) → taken_by w2.pass ≡ taken_by w.pass → ((s : ℕ) → s < 8 → (token_at s w2.shards).own ≡ (token_at s w.shards).own) → Accounts w l → Accounts w2 l
-accounts_same w w2 l taken same h =
+pub accounts_same : (given : ℕ) (w w2 : Worker) (l : List Tagged) → taken_by w2.pass ≡ taken_by w.pass → ((s : ℕ) → s < 8 → (token_at s w2.shards).own ≡ (token_at s w.shards).own) → Accounts given w l → Accounts given w2 l
+accounts_same given w w2 l taken same h =
     record {
       before = h.before;
+      first = h.first;
       items = h.items;
       taken = taken ∙ h.taken;
       same = h.same;
@@ -164,16 +166,24 @@ accounts_same w w2 l taken same h =
       judged = λ s low. All-same WasJudged (token_at s w2.shards).own (token_at s w.shards).own (same s low) (h.judged s low);
     }
 
+-- how many items the worker took in all
+pub taken_length : (given : ℕ) (w : Worker) (l : List Tagged) → Accounts given w l → length (taken_by w.pass) ≡ given + length l
+taken_length given w l h =
+    let many : length l ≡ length h.items = sym (length-map l (λ (t : Tagged). t.item)) ∙ (ap length h.same ∙ length-map h.items (λ (x : Queued). x.item)) in
+    ap length h.taken ∙ (length-append h.before h.items ∙ (λ i. h.first i + sym many i))
+
 -- events of a worker that took only what was put
-pub of_queue : (puts : List (List Item)) (w : Worker) (l : List Tagged) → TookOf puts w → Accounts w l → AreOfQueue puts l
-of_queue puts w l t h =
+pub of_queue : (puts : List (List Item)) (counts : List ℕ) (given worker : ℕ) (w : Worker) (l : List Tagged) → worker ≡ w.number → worker < length counts → slice_index_or counts worker 0 ≡ given
+    → TookOf puts w → Accounts given w l → AreOfQueue worker puts counts l
+of_queue puts counts given worker w l number below agrees t h =
     let both : items_of (taken_by w.pass) ≡ items_of h.before ++ items_in l =
     ap items_of h.taken ∙ (map-append (λ (x : Queued). x.item) h.before h.items ∙ ap (λ (x : List Item). items_of h.before ++ x) (sym h.same)) in
     record {
-      worker = w.number;
+      below = below;
       before = items_of h.before;
+      first = length-map h.before (λ (x : Queued). x.item) ∙ (h.first ∙ sym agrees);
       rest = t.rest;
-      put = t.put ∙ (ap (λ (x : List Item). x ++ t.rest) both ∙ append_assoc (items_of h.before) (items_in l) t.rest);
+      put = ap (λ (k : ℕ). slice_index_or puts k []) number ∙ t.put ∙ (ap (λ (x : List Item). x ++ t.rest) both ∙ append_assoc (items_of h.before) (items_in l) t.rest);
     }
 
 -- the same worker with other tokens of the shards

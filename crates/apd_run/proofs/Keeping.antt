@@ -1,5 +1,5 @@
 -- What changes of tokens and of loads preserve.
-use Rattle.std.proofs.Common.{◌≡◌, ◌<◌, ℕ, List, [], sym, ap, subst, ◌∙◌}
+use Rattle.std.proofs.Common.{◌≡◌, ◌+◌, ◌<◌, ℕ, List, [], length, sym, ap, subst, ◌∙◌}
 use Rattle.ap_model.specs.Readings.{Config}
 use Rattle.ap_books.specs.Counts.{none}
 use Rattle.ap_books.specs.Holdings.{Holding, HasParts, sum_of}
@@ -18,7 +18,7 @@ use Rattle.apd_run.specs.declared.access.program_counts.ProgramCounts.{ProgramCo
 use Rattle.ap_queues.specs.declared.lines.passes.LinePasses.{LinePasses}
 use Rattle.apd_run.specs.Dealing.{AreRest}
 use Rattle.apd_run.specs.Hands.{RunOperator, IsRunOperator, RunWorker, IsRunWorker}
-use Rattle.apd_run.proofs.Deciding.{accounts_more, accounts_none, accounts_same, kept_own}
+use Rattle.apd_run.proofs.Deciding.{accounts_more, accounts_none, accounts_same, kept_own, taken_length}
 use Rattle.apd_run.proofs.Served.{more_counted, nothing_counted}
 use Rattle.apd_run.proofs.Sums.{keeps_parts}
 
@@ -32,6 +32,25 @@ other_token shares place o t own same h =
       rest = h.rest;
       mine = subst (λ (e : Eight). HasParts 1 (holding_of e)) (sym same) h.mine;
       nothing = ap counted_by same ∙ h.nothing;
+      parts = h.parts;
+      pages = h.pages;
+      all = h.all;
+      shares_are = h.shares_are;
+      some = h.some;
+      list_is = h.list_is;
+      reads = h.reads;
+      in_force = h.in_force;
+    }
+
+-- an operator that took over what became of other numbers of items
+pub other_taken : {F : Type 0} → (shares : ℕ) (place : Live) (o : RunOperator F) (taken : List ℕ) → IsRunOperator shares place o → IsRunOperator shares place (record o { taken = taken })
+other_taken shares place o taken h =
+    record {
+      own = h.own;
+      ap_is = h.ap_is;
+      rest = h.rest;
+      mine = h.mine;
+      nothing = h.nothing;
       parts = h.parts;
       pages = h.pages;
       all = h.all;
@@ -68,38 +87,41 @@ uncounted w = record w { held = record w.held { counts = no_counts } }
 
 -- a worker whose token has other parts of the ledgers, one of each, which have counted nothing, no counts of its programs'
 -- runs, and no entries of its own
-pub other_parts : (place : Live) (w : RunWorker) (t : Worker) (fresh : Holding) (handled : List Tagged) → t ≡ record (uncounted w.token) { shards = t.shards } → holding_of t.shards ≡ fresh
-    → HasParts 1 fresh → sum_of fresh ≡ none → handled ≡ [] → ((s : ℕ) → s < 8 → (token_at s t.shards).own ≡ []) → IsRunWorker place w → IsRunWorker place (record w { token = t; handled = handled })
-other_parts place w t fresh handled same taken one nothing empty unowned h =
+pub other_parts : (place : Live) (w : RunWorker) (t : Worker) (fresh : Holding) (handled : List Tagged) (given : ℕ) → given ≡ w.given + length w.handled → t ≡ record (uncounted w.token) { shards = t.shards } → holding_of t.shards ≡ fresh
+    → HasParts 1 fresh → sum_of fresh ≡ none → handled ≡ [] → ((s : ℕ) → s < 8 → (token_at s t.shards).own ≡ []) → IsRunWorker place w → IsRunWorker place (record w { token = t; handled = handled; given = given })
+other_parts place w t fresh handled given more same taken one nothing empty unowned h =
     record {
       own = subst (IsWorker w.ap) (sym same) (record { number = h.own.number; pass = h.own.pass; list = h.own.list; fitting = h.own.fitting });
       ap_is = h.ap_is;
+      number_is = h.number_is ∙ sym (ap (λ (x : Worker). x.number) same);
       parts = subst (HasParts 1) (sym taken) one;
       counts = nothing_counted _ _ (ap sum_of taken ∙ nothing) empty;
-      accounts = accounts_none t handled empty unowned;
+      accounts = accounts_none given t handled (ap (λ (x : Worker). length (taken_by x.pass)) same ∙ (taken_length w.given w.token w.handled h.accounts ∙ sym more)) empty unowned;
     }
 
 -- a worker whose token has the same parts of the ledgers, and took nothing more
-pub same_parts : (place : Live) (w : RunWorker) (t : Worker) → IsWorker w.ap t → taken_by t.pass ≡ taken_by w.token.pass → t.shards ≡ w.token.shards → IsRunWorker place w → IsRunWorker place (record w { token = t })
-same_parts place w t own taken same h =
+pub same_parts : (place : Live) (w : RunWorker) (t : Worker) → IsWorker w.ap t → t.number ≡ w.token.number → taken_by t.pass ≡ taken_by w.token.pass → t.shards ≡ w.token.shards → IsRunWorker place w → IsRunWorker place (record w { token = t })
+same_parts place w t own number taken same h =
     record {
       own = own;
       ap_is = h.ap_is;
+      number_is = h.number_is ∙ sym number;
       parts = subst (λ (e : Eight). HasParts 1 (holding_of e)) (sym same) h.parts;
       counts = ap counted_by same ∙ h.counts;
-      accounts = accounts_same w.token t w.handled taken (λ s low. ap (λ (e : Eight). (token_at s e).own) same) h.accounts;
+      accounts = accounts_same w.given w.token t w.handled taken (λ s low. ap (λ (e : Eight). (token_at s e).own) same) h.accounts;
     }
 
 -- a worker that served
-pub served_worker : (config : Config) (place : Live) (w : RunWorker) (t : Worker) (handled : List Tagged) → IsWorker w.ap t → Served config w.ap w.token t w.handled handled
+pub served_worker : (config : Config) (place : Live) (w : RunWorker) (t : Worker) (handled : List Tagged) → IsWorker w.ap t → t.number ≡ w.token.number → Served config w.ap w.token t w.handled handled
     → IsRunWorker place w → IsRunWorker place (record w { token = t; handled = handled })
-served_worker config place w t handled own served h =
+served_worker config place w t handled own number served h =
     record {
       own = own;
       ap_is = h.ap_is;
+      number_is = h.number_is ∙ sym number;
       parts = keeps_parts 1 w.token.shards t.shards served.parts h.parts;
       counts = more_counted _ _ _ _ served.tags h.counts served.listed served.counted;
-      accounts = accounts_more config w.ap w.token t w.handled handled served h.accounts;
+      accounts = accounts_more config w.ap w.token t w.handled handled served w.given h.accounts;
     }
 
 -- ---- tokens that met
@@ -144,9 +166,10 @@ met_worker place w t same k h =
     record {
       own = subst (IsWorker w.ap) (sym same) (record { number = h.own.number; pass = h.own.pass; list = h.own.list; fitting = h.own.fitting });
       ap_is = h.ap_is;
+      number_is = h.number_is ∙ sym (ap (λ (x : Worker). x.number) same);
       parts = subst (HasParts 1) (sym (kept_holding w.token.shards t.shards k)) h.parts;
       counts = ap sum_of (kept_holding w.token.shards t.shards k) ∙ h.counts;
-      accounts = accounts_same w.token t w.handled (ap (λ (x : Worker). taken_by x.pass) same) (kept_own w.token.shards t.shards k) h.accounts;
+      accounts = accounts_same w.given w.token t w.handled (ap (λ (x : Worker). taken_by x.pass) same) (kept_own w.token.shards t.shards k) h.accounts;
     }
 
 -- an operator whose token met a worker at its queue

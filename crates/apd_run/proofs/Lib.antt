@@ -1,6 +1,7 @@
 pub mod KeptCode
 pub mod Putting
 pub mod Sums
+pub mod Numbering
 pub mod Judging
 pub mod Deciding
 pub mod Served

@@ -1,5 +1,6 @@
 -- What an operator's calls do to what contracts see of it.
-use Rattle.std.proofs.Common.{◌≡◌, ◌+◌, ◌-◌, ◌<◌, ◌≤◌, ℕ, zero, suc, List, Option, Some, None, refl, sym, ap, subst, ◌∙◌, arith, add-zero}
+use Rattle.std.proofs.Common.{◌≡◌, ◌+◌, ◌-◌, ◌<◌, ◌≤◌, ℕ, zero, suc, List, Option, Some, None, refl, slice_set, sym, ap, subst, ◌∙◌, arith, add-zero}
+use Rattle.std.specs.Prelude.{slice_index_or}
 use Rattle.bpf_regions.specs.declared.hooks.Hook.{Hook}
 use Rattle.versions.specs.Lists.{Beginning, with_load}
 use Rattle.versions.specs.Sets.{load}
@@ -16,20 +17,26 @@ use Rattle.ap_queues.specs.declared.lines.fault.Unserved.{Unserved}
 use Rattle.ap_queues.specs.declared.queue.EventQueue.{EventQueue}
 use Rattle.ap_shards.specs.Tokens.{Eight, KeepOwn}
 use Rattle.ap_live.specs.Tokens.{Operator}
-use Rattle.apd_script.specs.Asked.{Load, Adopt, Unload}
+use Rattle.apd_script.specs.Asked.{Load, Adopt, Read, Store, Sum, Unload}
+use Rattle.apd_script.specs.declared.command.MapWord.{MapWord}
+use Rattle.ap_tables.specs.Accesses.{Accesses, Sums}
+use Rattle.ap_tables.specs.Stocks.{Names}
+use Rattle.bpf_regions.specs.declared.maps.MapOp.TheVariants as operation
+use Rattle.bpf_regions.specs.declared.maps.Scope.TheVariants as scope
 use Rattle.apd_driver.specs.declared.reports.report.Told.{Told}
-use Rattle.apd_driver.specs.declared.reports.report.Told.TheVariants.{Memory}
+use Rattle.apd_driver.specs.declared.reports.report.Told.TheVariants.{Memory, Word}
 use Rattle.apd_driver.specs.Crews.{Crew, Works, gains, with_work}
 use Rattle.apd_driver.specs.Following.{AtNone, AtOneMore, Concerns, PutsAll, PutsFrom, WaitsAt, first_shard, for_publication, for_use, shard_end}
 use Rattle.apd_driver.specs.declared.actions.Publication.{Publication}
 use Rattle.apd_driver.specs.declared.actions.WordUse.{WordUse}
 use Rattle.apd_driver.specs.declared.operating.Waiting.{Waiting}
 use Rattle.apd_run.specs.Adopting.{AdoptsFiles}
-use Rattle.apd_run.specs.Hands.{RunOperator, crew_of, work_of}
+use Rattle.apd_run.specs.Hands.{RunOperator, claims, crew_of, work_of}
 use Rattle.apd_run.specs.Loading.{LoadsFile}
 use Rattle.apd_files.specs.Held.{Held, path_of}
 use Rattle.apd_run.specs.Deciding.{histories_of}
-use Rattle.apd_run.specs.Work.{Does, Sees, Work, live, with_loads}
+use Rattle.apd_run.specs.Words.{IsRead, IsStored, IsSummed, NoneRead, NoneStored, NoneSummed}
+use Rattle.apd_run.specs.Work.{Does, Sees, Work, live, with_loads, with_seats}
 use Rattle.apd_run.specs.Work as work
 use Rattle.apd_run.proofs.Deciding.{kept_seen}
 
@@ -70,25 +77,25 @@ no_such_shard e units shard tick high c =
 
 module _ {F : Type 0} (held : F → Held) where
   -- the same of an operator
-  pub put_work : (o old : RunOperator F) (t m : Operator) (line : ℕ) (e : Event) (first n to : ℕ) → o ≡ old → m ≡ o.token → t.shards ≡ m.shards → puts_of t.lines ≡ served (puts_of m.lines) line e first n → first + n ≡ to
+  pub put_work : (o old : RunOperator F) (t m : Operator) (line : ℕ) (e : Event) (first n to : ℕ) → o ≡ old → m ≡ o.token → t ≡ record m { lines = t.lines } → puts_of t.lines ≡ served (puts_of m.lines) line e first n → first + n ≡ to
       → PutsFrom live line e first (work_of held old) to (work_of held (record o { token = t }))
   put_work o old t m line e first n to is token still put end =
-      let shards : t.shards ≡ o.token.shards = still ∙ ap (λ (x : Operator). x.shards) token in
+      let others : t ≡ record o.token { lines = t.lines } = still ∙ ap (λ (x : Operator). record x { lines = t.lines }) token in
       let more : puts_of t.lines ≡ served (puts_of o.token.lines) line e first n = put ∙ ap (λ (x : Operator). served (puts_of x.lines) line e first n) token in
       subst (λ (x : RunOperator F). PutsFrom live line e first (work_of held x) to (work_of held (record o { token = t }))) is
       (subst (λ (k : ℕ). PutsFrom live line e first (work_of held o) k (work_of held (record o { token = t }))) end
-      (subst (λ (x : Eight). PutsFrom live line e first (work_of held o) (first + n) (record (work_of held o) { puts = puts_of t.lines; histories = histories_of x })) (sym shards)
+      (subst (λ (x : Operator). PutsFrom live line e first (work_of held o) (first + n) (work_of held (record o { token = x }))) (sym others)
       (subst (λ (ps : List (List Item)). PutsFrom live line e first (work_of held o) (first + n) (record (work_of held o) { puts = ps })) (sym more) (put_some (work_of held o) line e first n))))
 
   -- it was put at all that it concerns
-  pub put_all : (o old : RunOperator F) (t m : Operator) (line : ℕ) (e : Event) → o ≡ old → m ≡ o.token → t.shards ≡ m.shards → puts_of t.lines ≡ served (puts_of m.lines) line e (queue.first_shard e) (shard_count e)
+  pub put_all : (o old : RunOperator F) (t m : Operator) (line : ℕ) (e : Event) → o ≡ old → m ≡ o.token → t ≡ record m { lines = t.lines } → puts_of t.lines ≡ served (puts_of m.lines) line e (queue.first_shard e) (shard_count e)
       → PutsAll live line e (work_of held old) (work_of held (record o { token = t }))
   put_all o old t m line e is token still put =
       subst (λ (k : ℕ). PutsFrom live line e k (work_of held old) (shard_end e) (work_of held (record o { token = t }))) (same_first e)
       (put_work o old t m line e (queue.first_shard e) (shard_count e) (shard_end e) is token still put (ap (λ (k : ℕ). k + shard_count e) (same_first e) ∙ same_end e))
 
   -- a tick was put from a shard on
-  pub put_tick : (o old : RunOperator F) (t m : Operator) (line units shard : ℕ) (e : Event) → o ≡ old → m ≡ o.token → t.shards ≡ m.shards → shard < 8 → e ≡ event.Tick units
+  pub put_tick : (o old : RunOperator F) (t m : Operator) (line units shard : ℕ) (e : Event) → o ≡ old → m ≡ o.token → t ≡ record m { lines = t.lines } → shard < 8 → e ≡ event.Tick units
       → puts_of t.lines ≡ served (puts_of m.lines) line (event.Tick units) shard (8 - shard) → PutsFrom live line e shard (work_of held old) (shard_end e) (work_of held (record o { token = t }))
   put_tick o old t m line units shard e is token still below tick put =
       let all : shard + (8 - shard) ≡ 8 = omega (arith, below) in
@@ -96,13 +103,13 @@ module _ {F : Type 0} (held : F → Held) where
       (put_work o old t m line (event.Tick units) shard (8 - shard) 8 is token still put all)
 
   -- another event was put at its shard
-  pub put_there : (o old : RunOperator F) (t m : Operator) (line : ℕ) (e : Event) (shard : ℕ) → o ≡ old → m ≡ o.token → t.shards ≡ m.shards → first_shard e ≡ shard
+  pub put_there : (o old : RunOperator F) (t m : Operator) (line : ℕ) (e : Event) (shard : ℕ) → o ≡ old → m ≡ o.token → t ≡ record m { lines = t.lines } → first_shard e ≡ shard
       → puts_of t.lines ≡ served (puts_of m.lines) line e (queue.first_shard e) (shard_count e) → PutsFrom live line e shard (work_of held old) (shard_end e) (work_of held (record o { token = t }))
   put_there o old t m line e shard is token still there put =
       subst (λ (k : ℕ). PutsFrom live line e k (work_of held old) (shard_end e) (work_of held (record o { token = t }))) there (put_all o old t m line e is token still put)
 
   -- and waits at another
-  pub waits_work : (queues : List EventQueue) (o old : RunOperator F) (t m : Operator) (line : ℕ) (e : Event) (first count : ℕ) (u : Unserved) (w : Waiting) → o ≡ old → m ≡ o.token → t.shards ≡ m.shards
+  pub waits_work : (queues : List EventQueue) (o old : RunOperator F) (t m : Operator) (line : ℕ) (e : Event) (first count : ℕ) (u : Unserved) (w : Waiting) → o ≡ old → m ≡ o.token → t ≡ record m { lines = t.lines }
       → StopsAt queues m.lines t.lines line e first count u → first_shard e ≤ first → first + count ≡ shard_end e → w ≡ record { event = u.event; shard = u.shard }
       → WaitsAt live line e first (work_of held old) (work_of held (record o { token = t })) w
   waits_work queues o old t m line e first count u w is token still h low end back =
@@ -117,7 +124,7 @@ module _ {F : Type 0} (held : F → Held) where
       subst (λ (x : Waiting). WaitsAt live line e first (work_of held old) (work_of held (record o { token = t })) x) (sym back) waits
 
   -- the same after all that it concerns
-  pub waits_all : (queues : List EventQueue) (o old : RunOperator F) (t m : Operator) (line : ℕ) (e : Event) (u : Unserved) (w : Waiting) → o ≡ old → m ≡ o.token → t.shards ≡ m.shards
+  pub waits_all : (queues : List EventQueue) (o old : RunOperator F) (t m : Operator) (line : ℕ) (e : Event) (u : Unserved) (w : Waiting) → o ≡ old → m ≡ o.token → t ≡ record m { lines = t.lines }
       → StopsAt queues m.lines t.lines line e (queue.first_shard e) (shard_count e) u → w ≡ record { event = u.event; shard = u.shard }
       → WaitsAt live line e (first_shard e) (work_of held old) (work_of held (record o { token = t })) w
   waits_all queues o old t m line e u w is token still h back =
@@ -126,7 +133,7 @@ module _ {F : Type 0} (held : F → Held) where
       (waits_work queues o old t m line e (queue.first_shard e) (shard_count e) u w is token still h low (ap (λ (k : ℕ). k + shard_count e) (same_first e) ∙ same_end e) back)
 
   -- a tick waits at another shard
-  pub waits_tick : (queues : List EventQueue) (o old : RunOperator F) (t m : Operator) (line units shard : ℕ) (e : Event) (u : Unserved) (w : Waiting) → o ≡ old → m ≡ o.token → t.shards ≡ m.shards → shard < 8 → e ≡ event.Tick units
+  pub waits_tick : (queues : List EventQueue) (o old : RunOperator F) (t m : Operator) (line units shard : ℕ) (e : Event) (u : Unserved) (w : Waiting) → o ≡ old → m ≡ o.token → t ≡ record m { lines = t.lines } → shard < 8 → e ≡ event.Tick units
       → StopsAt queues m.lines t.lines line (event.Tick units) shard (8 - shard) u → w ≡ record { event = u.event; shard = u.shard }
       → WaitsAt live line e shard (work_of held old) (work_of held (record o { token = t })) w
   waits_tick queues o old t m line units shard e u w is token still below tick h back =
@@ -136,7 +143,7 @@ module _ {F : Type 0} (held : F → Held) where
       (waits_work queues o old t m line (event.Tick units) shard (8 - shard) u w is token still h low all back)
 
   -- another event waits at its shard
-  pub waits_there : (queues : List EventQueue) (o old : RunOperator F) (t m : Operator) (line : ℕ) (e : Event) (shard : ℕ) (u : Unserved) (w : Waiting) → o ≡ old → m ≡ o.token → t.shards ≡ m.shards → first_shard e ≡ shard
+  pub waits_there : (queues : List EventQueue) (o old : RunOperator F) (t m : Operator) (line : ℕ) (e : Event) (shard : ℕ) (u : Unserved) (w : Waiting) → o ≡ old → m ≡ o.token → t ≡ record m { lines = t.lines } → first_shard e ≡ shard
       → StopsAt queues m.lines t.lines line e (queue.first_shard e) (shard_count e) u → w ≡ record { event = u.event; shard = u.shard }
       → WaitsAt live line e shard (work_of held old) (work_of held (record o { token = t })) w
   waits_there queues o old t m line e shard u w is token still there h back =
@@ -175,6 +182,48 @@ module _ {F : Type 0} (held : F → Held) where
       subst (λ (x : RunOperator F). Does (work_of held x) (with_loads (work_of held o) b) (Unload hook) (Some Memory)) is
       (work.NotUnloads hook (ap (λ (x : Beginning). with_loads (work_of held o) x) h))
 
+  -- ---- words
+
+  -- a token whose seats alone know more
+  with_more : (o : RunOperator F) (t m : Operator) → m ≡ o.token → t ≡ record m { seats = t.seats } → work_of held (record o { token = t }) ≡ with_seats (work_of held o) t.seats
+  with_more o t m token same =
+      let others : t ≡ record o.token { seats = t.seats } = same ∙ ap (λ (x : Operator). record x { seats = t.seats }) token in
+      ap (λ (x : Operator). work_of held (record o { token = x })) others
+
+  -- a number was stored in a word
+  pub store_does : (o old : RunOperator F) (t m : Operator) (word : MapWord) (value : ℕ) → o ≡ old → m ≡ o.token → t ≡ record m { seats = t.seats }
+      → Accesses o.ap.stock.maps m.seats word.map word.word (operation.Store value) 0 t.seats → Does (work_of held old) (work_of held (record o { token = t })) (Store word value) None
+  store_does o old t m word value is token same made =
+      subst (λ (x : RunOperator F). Does (work_of held x) (work_of held (record o { token = t })) (Store word value) None) is
+      (work.Stores word value (IsStored (subst (λ (x : Operator). Accesses o.ap.stock.maps x.seats word.map word.word (operation.Store value) 0 t.seats) token made)) (with_more o t m token same))
+
+  -- a word was read
+  pub read_does : (o old : RunOperator F) (t m : Operator) (word : MapWord) (value : ℕ) → o ≡ old → m ≡ o.token → t ≡ record m { seats = t.seats }
+      → Accesses o.ap.stock.maps m.seats word.map word.word operation.Load value t.seats → Does (work_of held old) (work_of held (record o { token = t })) (Read word) (Some (Word value))
+  read_does o old t m word value is token same made =
+      subst (λ (x : RunOperator F). Does (work_of held x) (work_of held (record o { token = t })) (Read word) (Some (Word value))) is
+      (work.Reads word _ (IsRead value (subst (λ (x : Operator). Accesses o.ap.stock.maps x.seats word.map word.word operation.Load value t.seats) token made)) (with_more o t m token same))
+
+  -- a word was summed up
+  pub sum_does : (o old : RunOperator F) (t m : Operator) (word : MapWord) (value : ℕ) → o ≡ old → m ≡ o.token → t ≡ record m { seats = t.seats }
+      → Sums o.ap.stock.maps m.seats word.map word.word value t.seats → Does (work_of held old) (work_of held (record o { token = t })) (Sum word) (Some (Word value))
+  sum_does o old t m word value is token same made =
+      subst (λ (x : RunOperator F). Does (work_of held x) (work_of held (record o { token = t })) (Sum word) (Some (Word value))) is
+      (work.Sums word _ (IsSummed value (subst (λ (x : Operator). Sums o.ap.stock.maps x.seats word.map word.word value t.seats) token made)) (with_more o t m token same))
+
+  -- there is no such word
+  pub stores_nothing : (o old : RunOperator F) (word : MapWord) (value : ℕ) → o ≡ old → (Names scope.Shared o.ap.stock.maps word.map word.word → ⊥) → Does (work_of held old) (work_of held old) (Store word value) None
+  stores_nothing o old word value is nowhere =
+      subst (λ (x : RunOperator F). Does (work_of held x) (work_of held x) (Store word value) None) is (work.Stores word value (NoneStored (record { nowhere = nowhere }) refl) refl)
+
+  pub reads_nothing : (o old : RunOperator F) (word : MapWord) → o ≡ old → (Names scope.Shared o.ap.stock.maps word.map word.word → ⊥) → Does (work_of held old) (work_of held old) (Read word) None
+  reads_nothing o old word is nowhere =
+      subst (λ (x : RunOperator F). Does (work_of held x) (work_of held x) (Read word) None) is (work.Reads word _ (NoneRead (record { nowhere = nowhere }) refl) refl)
+
+  pub sums_nothing : (o old : RunOperator F) (word : MapWord) → o ≡ old → (Names scope.Worker o.ap.stock.maps word.map word.word → ⊥) → Does (work_of held old) (work_of held old) (Sum word) None
+  sums_nothing o old word is nowhere =
+      subst (λ (x : RunOperator F). Does (work_of held x) (work_of held x) (Sum word) None) is (work.Sums word _ (NoneSummed (record { nowhere = nowhere }) refl) refl)
+
   -- ---- what stays
 
   -- nothing changed but the work
@@ -182,27 +231,21 @@ module _ {F : Type 0} (held : F → Held) where
   works o old w is = ap (λ (x : RunOperator F). with_work (crew_of held x) w) is
 
   -- a token that has put nothing more, and seen nothing more
-  pub same_puts : (o old : RunOperator F) (t m : Operator) → o ≡ old → m ≡ o.token → puts_of t.lines ≡ puts_of m.lines → t.shards ≡ m.shards → crew_of held (record o { token = t }) ≡ crew_of held old
+  pub same_puts : (o old : RunOperator F) (t m : Operator) → o ≡ old → m ≡ o.token → puts_of t.lines ≡ puts_of m.lines → t ≡ record m { lines = t.lines } → crew_of held (record o { token = t }) ≡ crew_of held old
   same_puts o old t m is token same still =
       let put : puts_of t.lines ≡ puts_of o.token.lines = same ∙ ap (λ (x : Operator). puts_of x.lines) token in
-      let shards : t.shards ≡ o.token.shards = still ∙ ap (λ (x : Operator). x.shards) token in
-      (λ i. record {
-        workers = o.workers;
-        counted = sum_of o.hoard;
-        work = record { files = held o.files; limits = o.limits; config = o.config; puts = put i; histories = histories_of (shards i); loads = o.loads };
-      }) ∙ ap (crew_of held) is
-
-  -- the same with the same handles
-  pub same_lines : (o old : RunOperator F) (t m : Operator) → o ≡ old → m ≡ o.token → t.lines ≡ m.lines → t.shards ≡ m.shards → crew_of held (record o { token = t }) ≡ crew_of held old
-  same_lines o old t m is token same still = same_puts o old t m is token (ap puts_of same) still
+      let others : t ≡ record o.token { lines = t.lines } = still ∙ ap (λ (x : Operator). record x { lines = t.lines }) token in
+      ap (λ (x : Operator). crew_of held (record o { token = x })) others
+      ∙ ((λ i. record { workers = o.workers; counted = sum_of o.hoard; work = record (work_of held o) { puts = put i } })
+      ∙ ap (crew_of held) is)
 
   -- a token that has put nothing more, and may have seen more
   pub sees_more : (o old : RunOperator F) (t m : Operator) → o ≡ old → m ≡ o.token → t ≡ record m { shards = t.shards } → KeepOwn m.shards t.shards → Sees (work_of held old) (work_of held (record o { token = t }))
   sees_more o old t m is token same keeps =
-      let put : puts_of t.lines ≡ puts_of o.token.lines = ap (λ (x : Operator). puts_of x.lines) (same ∙ ap (λ (x : Operator). record x { shards = t.shards }) token) in
+      let others : t ≡ record o.token { shards = t.shards } = same ∙ ap (λ (x : Operator). record x { shards = t.shards }) token in
       subst (λ (x : RunOperator F). Sees (work_of held x) (work_of held (record o { token = t }))) is
       (record {
-        others = λ i. record { files = held o.files; limits = o.limits; config = o.config; puts = put i; histories = histories_of t.shards; loads = o.loads };
+        others = ap (λ (x : Operator). work_of held (record o { token = x })) others;
         go_on = kept_seen o.token.shards t.shards (subst (λ (x : Operator). KeepOwn x.shards t.shards) token keeps);
       })
 
@@ -210,22 +253,17 @@ module _ {F : Type 0} (held : F → Held) where
   pub told_crew : (o old : RunOperator F) (b : Beginning) → o ≡ old → b ≡ o.loads → crew_of held (record o { loads = b }) ≡ crew_of held old
   told_crew o old b is same = ap (λ (x : Beginning). crew_of held (record o { loads = x })) same ∙ ap (crew_of held) is
 
-  -- counts that were taken over
-  pub gained_crew : (o old : RunOperator F) (hoard : Holding) (counted : Counts) → o ≡ old → sum_of hoard ≡ plus (sum_of o.hoard) counted
-      → crew_of held (record o { hoard = hoard }) ≡ gains (crew_of held old) counted
-  gained_crew o old hoard counted is more =
-      let crew : crew_of held (record o { hoard = hoard }) ≡ gains (crew_of held o) counted = λ i. record { workers = o.workers; counted = more i; work = work_of held o } in
-      crew ∙ ap (λ (x : RunOperator F). gains (crew_of held x) counted) is
-
--- ---- words
+  -- counts were taken over, and what became of events
+  pub claimed_crew : (o old : RunOperator F) (hoard : Holding) (counted : Counts) (taken : List ℕ) (number many : ℕ) → o ≡ old → sum_of hoard ≡ plus (sum_of o.hoard) counted
+      → taken ≡ slice_set o.taken number (slice_index_or o.taken number 0 + many) → crew_of held (record o { hoard = hoard; taken = taken }) ≡ gains (claims (crew_of held old) number many) counted
+  claimed_crew o old hoard counted taken number many is more note =
+      let crew : crew_of held (record o { hoard = hoard; taken = taken }) ≡ gains (claims (crew_of held o) number many) counted =
+      λ i. record { workers = o.workers; counted = more i; work = record (work_of held o) { taken = note i } } in
+      crew ∙ ap (λ (x : RunOperator F). gains (claims (crew_of held x) number many) counted) is
 
 -- an operator that did nothing
 pub works_same : (c d : Crew live) → d ≡ c → Works c d
 works_same c d same = rw same refl
-
--- its work is the same
-pub same_work : (c d : Crew live) → d ≡ c → d.work ≡ c.work
-same_work c d same = ap (λ (x : Crew live). x.work) same
 
 -- what was done for a use of a word
 pub uses_as : {old new : Work} {told : Option Told} (u v : WordUse) → u ≡ v → Does old new (for_use v) told → Does old new (for_use u) told

@@ -1,6 +1,6 @@
 -- Reports on a worker's list.
-use Rattle.std.proofs.Common.{◌≡◌, ℕ, List, [], ◌∷◌, ◌++◌, refl, sym, ap, subst, ◌∙◌, zero-add}
-use Rattle.std.specs.Prelude.{true, false, None}
+use Rattle.std.proofs.Common.{◌≡◌, ◌<◌, ℕ, List, [], ◌∷◌, ◌++◌, length, refl, sym, ap, subst, ◌∙◌, zero-add}
+use Rattle.std.specs.Prelude.{true, false, None, slice_index_or}
 use Rattle.std.proofs.lemmas.List.Sums.{sum_by-append}
 use Rattle.ap_model.specs.declared.event.Event.{Event}
 use Rattle.ap_books.specs.Counts.{Counts, none, plus}
@@ -16,7 +16,7 @@ use Rattle.apd_run.specs.Deciding.{Accounts, TookOf}
 use Rattle.apd_run.specs.Reports.{Handled, Memory, Report}
 use Rattle.apd_driver.specs.Tallies.{report_counts, tallied, told_counts}
 use Rattle.apd_run.specs.Telling.{dropped_in, report_if, reports_in, reports_of, told_of}
-use Rattle.apd_run.specs.Work.{Meets, Takes, Work, live}
+use Rattle.apd_run.specs.Work.{Meets, Takes, Work, live, with_histories, with_taken}
 use Rattle.apd_run.proofs.Deciding.{of_queue}
 use Rattle.apd_run.proofs.Sums.{none_plus, plus_three}
 
@@ -58,26 +58,31 @@ told_counted (t ∷ ts) =
     tallied_two (reports_of t) (reports_in ts)
     ∙ (ap (λ (c : Counts). plus c (tallied (reports_in ts))) (report_counted t.item.call t.item.shard t.item.event t.fate) ∙ ap (λ (c : Counts). plus (fate_counts t.fate) c) (told_counted ts))
 
--- a worker was met and came back, and the reports on its list were appended
-pub collects_met : (crew mid crew2 : Crew live) (list list2 : List Report) (w : Worker) (tags : List Tagged) → TookOf crew.work.puts w → Works crew mid → Meets crew.work mid.work w → Accounts w tags → crew2 ≡ gains mid (tally tags)
+-- a worker was met, its events were claimed, and the reports on its list were appended
+pub collects_met : (crew mid crew2 : Crew live) (list list2 : List Report) (given worker : ℕ) (w : Worker) (tags : List Tagged) → worker ≡ w.number → TookOf crew.work.puts w → Works crew mid → Meets crew.work mid.work w
+    → worker < length mid.work.taken → slice_index_or mid.work.taken worker 0 ≡ given → Accounts given w tags → crew2 ≡ gains (with_work mid (with_taken mid.work worker (length tags))) (tally tags)
     → list2 ≡ list ++ reports_in tags → Collects crew crew2 list list2
-collects_met crew mid crew2 list list2 w tags took works m h counted listed =
-    let same : crew2.work ≡ mid.work = ap (λ (c : Crew live). c.work) counted in
-    let takes : Takes crew.work mid.work (reports_in tags) = record {
+collects_met crew mid crew2 list list2 given worker w tags number took works m below agrees h counted listed =
+    let last : Work = with_taken mid.work worker (length tags) in
+    let same : crew2.work ≡ last = ap (λ (c : Crew live). c.work) counted in
+    let seen : mid.work ≡ with_histories crew.work mid.work.histories = m.sees.others in
+    let kept : mid.work.taken ≡ crew.work.taken = ap (λ (x : Work). x.taken) seen in
+    let takes : Takes crew.work last (reports_in tags) = record {
+      worker = worker;
       events = tags;
       told = refl;
-      queued = of_queue crew.work.puts w tags took h;
+      queued = of_queue crew.work.puts crew.work.taken given worker w tags number (subst (λ (l : List ℕ). worker < length l) kept below) (ap (λ (l : List ℕ). slice_index_or l worker 0) (sym kept) ∙ agrees) took h;
       concern = h.told;
       decided = λ s low. record { entries = (token_at s w.shards).own; deeds = h.deeds s low; judged = h.judged s low; among = m.among s low };
       holds = m.holds;
-      sees = m.sees;
+      sees = record { others = ap (λ (x : Work). with_taken x worker (length tags)) seen; go_on = m.sees.go_on };
     } in
     record {
       reports = reports_in tags;
       listed = listed;
-      taken = subst (λ (x : Work). TakesAll live crew.work x (reports_in tags)) (sym same) (FromOneMore crew.work mid.work [] (reports_in tags) FromNone takes);
+      taken = subst (λ (x : Work). TakesAll live crew.work x (reports_in tags)) (sym same) (FromOneMore crew.work last [] (reports_in tags) FromNone takes);
       counted = counted
-          ∙ (ap (λ (c : Crew live). gains c (tally tags)) works
+          ∙ (ap (λ (c : Crew live). gains (with_work c last) (tally tags)) works
           ∙ (ap (λ (x : Work). with_work (gains crew (tally tags)) x) (sym same) ∙ ap (λ (c : Counts). with_work (gains crew c) crew2.work) (sym (told_counted tags))));
     }
 

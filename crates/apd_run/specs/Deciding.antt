@@ -1,5 +1,5 @@
 -- What became of a worker's events, as the shards' histories have it.
-use Rattle.std.specs.Prelude.{◌≡◌, ◌==◌, ◌<◌, ℕ, Bool, true, false, List, [], ◌∷◌, ◌++◌, map, slice_index_or}
+use Rattle.std.specs.Prelude.{◌≡◌, ◌==◌, ◌<◌, ℕ, Bool, true, false, List, [], ◌∷◌, ◌++◌, length, map, slice_index_or}
 use Rattle.std.specs.List.{All}
 use Rattle.ap_model.specs.declared.event.Event.{Event}
 use Rattle.ap_model.specs.declared.event.Out.{Out}
@@ -53,10 +53,12 @@ pub record TookOf (puts : List (List Item)) (w : Worker) : Type 0 where
   pub rest : List Item
   pub put : slice_index_or puts w.number [] ≡ items_of (taken_by w.pass) ++ rest
 
--- the events are of items that were put into one worker's queue one after another, in this order
-pub record AreOfQueue (puts : List (List Item)) (events : List Tagged) : Type 0 where
-  pub worker : ℕ
+-- The events are of the next items that were put into this worker's queue, one after another, in this order, if these were
+-- put into each worker's, and this many of each were taken over before.
+pub record AreOfQueue (worker : ℕ) (puts : List (List Item)) (taken : List ℕ) (events : List Tagged) : Type 0 where
+  pub below : worker < length taken
   pub before : List Item
+  pub first : length before ≡ slice_index_or taken worker 0
   pub rest : List Item
   pub put : slice_index_or puts worker [] ≡ before ++ (items_in events ++ rest)
 
@@ -70,10 +72,12 @@ pub record WasJudged (e : Entry) : Type 0 where
   pub loads : List Load
   pub judged : AreJudged (set_of loads) e.asked
 
--- The events are of the last items that the worker took, in order, and each concerns its shard. What is told of those that
--- were decided at a shard is, in order, what the token's own entries there say, whose verdicts are of accepted programs.
-pub record Accounts (w : Worker) (events : List Tagged) : Type 0 where
+-- The events are of the last items that the worker took, in order, after this many others, and each concerns its shard. What
+-- is told of those that were decided at a shard is, in order, what the token's own entries there say, whose verdicts are of
+-- accepted programs.
+pub record Accounts (given : ℕ) (w : Worker) (events : List Tagged) : Type 0 where
   pub before : List Queued
+  pub first : length before ≡ given
   pub items : List Queued
   pub taken : taken_by w.pass ≡ before ++ items
   pub same : items_in events ≡ items_of items

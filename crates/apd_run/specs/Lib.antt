@@ -5,6 +5,7 @@ pub mod Telling
 pub mod InForce
 pub mod Listing
 pub mod Deciding
+pub mod Words
 pub mod Work
 pub mod Hands
 pub mod NewRuns

@@ -1,9 +1,11 @@
 -- What an operator works with, and what it has done so far.
-use Rattle.std.specs.Prelude.{◌≡◌, ◌<◌, ℕ, List, Option, Some, None, IfSome}
+use Rattle.std.specs.Prelude.{◌≡◌, ◌+◌, ◌<◌, ℕ, List, Option, Some, None, length, slice_index_or, slice_set}
 use Rattle.std.specs.List.{All}
 use mathlib.Core.List.{IsPrefix}
 use Rattle.bpf_regions.specs.declared.hooks.Hook.{Hook}
 use Rattle.bpf_verifier.specs.declared.limit.Limits.{Limits}
+use Rattle.shared_maps.specs.Tables.{Place}
+use Rattle.bpf_helpers.specs.Tables.{Tables}
 use Rattle.versions.specs.Lists.{Beginning, with_load}
 use Rattle.versions.specs.Sets.{load}
 use Rattle.ap_model.specs.declared.event.Event.{Event}
@@ -21,26 +23,35 @@ use Rattle.apd_script.specs.declared.command.MapWord.{MapWord}
 use Rattle.apd_driver.specs.Semantics.{Semantics}
 use Rattle.apd_driver.specs.declared.reports.report.Report.{Report}
 use Rattle.apd_driver.specs.declared.reports.report.Told.{Told}
-use Rattle.apd_driver.specs.declared.reports.report.Told.TheVariants.{Memory, Word}
+use Rattle.apd_driver.specs.declared.reports.report.Told.TheVariants.{Memory}
 use Rattle.apd_run.specs.Adopting.{AdoptsFiles}
 use Rattle.apd_run.specs.Deciding.{AreEntries, AreOfQueue, Concerns, IsHistory}
 use Rattle.apd_run.specs.Loading.{LoadsFile}
 use Rattle.apd_run.specs.Telling.{reports_in}
+use Rattle.apd_run.specs.Words.{ReadsWord, StoresWord, SumsWord}
 
 -- what is known of the files of programs, what the verifier or a check may do for each program, the configuration of the
--- link; what was put into the queue of each worker, in order, what the operator knows of each shard's history, and the loads
--- that were published
+-- link, the tables of all maps; what the operator's seat at each table knows of its history, what was put into the queue of
+-- each worker, in order, of how many of these items it was taken over what became of them, what the operator knows of each
+-- shard's history, and the loads that were published
 pub record Work : Type 0 where
   pub files : Held
   pub limits : Limits
   pub config : Config
+  pub maps : List Tables
+  pub seats : List (List Place)
   pub puts : List (List Item)
+  pub taken : List ℕ
   pub histories : ℕ → List Entry
   pub loads : Beginning
 
 -- the same with other loads
 abbrev pub with_loads : Work → Beginning → Work
 with_loads w loads = record w { loads = loads }
+
+-- the same where the operator's seats know this
+abbrev pub with_seats : Work → List (List Place) → Work
+with_seats w seats = record w { seats = seats }
 
 -- the event of a line was put at a shard, after all that was put before
 abbrev pub put_at : Work → ℕ → Event → ℕ → Work
@@ -50,14 +61,12 @@ put_at w line e shard = record w { puts = with_item w.puts (item line shard e) }
 abbrev pub with_histories : Work → (ℕ → List Entry) → Work
 with_histories w histories = record w { histories = histories }
 
--- the value of a word
-abbrev pub IsWord : Told → Type 0
-IsWord (Word value) = Unit {0}
-IsWord _ = ⊥
+-- the same after what became of this many more items of a worker's queue was taken over
+abbrev pub with_taken : Work → ℕ → ℕ → Work
+with_taken w worker many = record w { taken = slice_set w.taken worker (slice_index_or w.taken worker 0 + many) }
 
 -- What is done for a line that asks for no event, and what is told of it, if anything: a load, an adoption or an unload
--- changes the published loads, and nothing else. A use of a word changes none of these, and tells a value or nothing; which,
--- is not said.
+-- changes the published loads, a use of a word what the seats know, and nothing else.
 pub data Does (old new : Work) : Asked → Option Told → Type 0 where
   Loads : (hook : Hook) (path : List ℕ) (told : Told) (loads : Beginning) → LoadsFile old.files old.limits hook (path_of path) old.loads loads told
       → new ≡ with_loads old loads → Does old new (Load hook path) (Some told)
@@ -65,9 +74,9 @@ pub data Does (old new : Work) : Asked → Option Told → Type 0 where
       → new ≡ with_loads old loads → Does old new (Adopt hook path certificate) (Some told)
   Unloads : (hook : Hook) → new ≡ with_loads old (with_load old.loads (load hook None)) → Does old new (Unload hook) None
   NotUnloads : (hook : Hook) → new ≡ old → Does old new (Unload hook) (Some Memory)
-  Stores : (word : MapWord) (value : ℕ) → new ≡ old → Does old new (Store word value) None
-  Reads : (word : MapWord) (told : Option Told) → IfSome told IsWord → new ≡ old → Does old new (Read word) told
-  Sums : (word : MapWord) (told : Option Told) → IfSome told IsWord → new ≡ old → Does old new (Sum word) told
+  Stores : (word : MapWord) (value : ℕ) → StoresWord old.maps word value old.seats new.seats → new ≡ with_seats old new.seats → Does old new (Store word value) None
+  Reads : (word : MapWord) (told : Option Told) → ReadsWord old.maps word old.seats new.seats told → new ≡ with_seats old new.seats → Does old new (Read word) told
+  Sums : (word : MapWord) (told : Option Told) → SumsWord old.maps word old.seats new.seats told → new ≡ with_seats old new.seats → Does old new (Sum word) told
 
 -- the operator knows more of the shards' histories, or as much, and nothing else changed
 pub record Sees (old new : Work) : Type 0 where
@@ -80,18 +89,19 @@ pub record Meets (old new : Work) (w : Worker) : Type 0 where
   pub holds : (s : ℕ) → s < 8 → IsHistory s new.config (new.histories s)
   pub among : (s : ℕ) → s < 8 → IsAmong (token_at s w.shards).own (new.histories s)
 
--- What became of a worker's events was taken over, and is what these reports tell. The events are of items that the
--- operator put into that worker's queue one after another, and each concerns its shard. What is told of those that were
+-- What became of a worker's events was taken over, and is what these reports tell. The events are of the next items that the
+-- operator put into that worker's queue, one after another, and each concerns its shard. What is told of those that were
 -- decided at a shard is, in order, what entries of the shard's history say. Each history goes on with what the operator
 -- knew of it before, and is a run of the link from nobody on, under the configuration.
 pub record Takes (old new : Work) (reports : List Report) : Type 0 where
+  pub worker : ℕ
   pub events : List Tagged
   pub told : reports ≡ reports_in events
-  pub queued : AreOfQueue old.puts events
+  pub queued : AreOfQueue worker old.puts old.taken events
   pub concern : All Concerns events
   pub decided : (s : ℕ) → s < 8 → AreEntries s events (new.histories s)
   pub holds : (s : ℕ) → s < 8 → IsHistory s new.config (new.histories s)
-  pub sees : Sees old new
+  pub sees : Sees (with_taken old worker (length events)) new
 
 -- what is said of an operator of a live access point
 abbrev pub live : Semantics

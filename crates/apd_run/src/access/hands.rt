@@ -8,7 +8,7 @@ ghost use Rattle.ap_live.specs.Opening.{parts_in_all};
 ghost use Rattle.ap_live.specs.Tokens.{AreLeft, IsWorker};
 ghost use Rattle.ap_shards.specs.Pages.{HasPages};
 ghost use Rattle.ap_queues.specs.Lines.{HaveMade};
-ghost use Rattle.apd_run.specs.Dealing.{AreHands, AreRest, IsNewOperator, IsNewWorker};
+ghost use Rattle.apd_run.specs.Dealing.{AreHands, AreNumberedFrom, AreRest, IsNewOperator, IsNewWorker};
 
 use crate::access::hiring::hire;
 use ap_books::{Ledgers, Portions};
@@ -57,6 +57,7 @@ fn give_rights<B: Ledgers + Journals>(
     ensures operator { IfOk result (λ r. IsNewOperator ap.new r.operator) }
     ensures own { IfOk result (λ r. All (IsWorker ap.new) r.workers.items) }
     ensures new { IfOk result (λ r. All IsNewWorker r.workers.items) }
+    ensures numbered { IfOk result (λ r. AreNumberedFrom 0 r.workers.items) }
     ensures many { IfOk result (λ r. vec_len r.workers ≡ count) }
     ensures parts { IfOk result (λ _. left.new.parts + count + 1 ≡ left.old.parts) }
     ensures counted { IfOk result (λ _. counted_by left.new.shards ≡ counted_by left.old.shards) }

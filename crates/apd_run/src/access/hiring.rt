@@ -5,7 +5,7 @@ ghost use Rattle.std.specs.List.{All};
 ghost use Rattle.ap_live.specs.Counting.{counted_by};
 ghost use Rattle.ap_live.specs.Tokens.{AreLeft, IsWorker};
 ghost use Rattle.ap_queues.specs.Lines.{HaveMade};
-ghost use Rattle.apd_run.specs.Dealing.{IsNewWorker};
+ghost use Rattle.apd_run.specs.Dealing.{AreNumberedFrom, IsNewWorker};
 
 use ap_books::Ledgers;
 use ap_live::{LeftTokens, LiveAp, WorkerToken, newcomers_law, tokens_law};
@@ -26,6 +26,7 @@ pub(crate) fn hire<B: Ledgers + Journals>(
     ensures unmade { HaveMade 0 left.new.passes }
     ensures own { IfOk result (λ ws. All (IsWorker ap.new) ws.items) }
     ensures new { IfOk result (λ ws. All IsNewWorker ws.items) }
+    ensures numbered { IfOk result (λ ws. AreNumberedFrom 0 ws.items) }
     ensures many { IfOk result (λ ws. vec_len ws ≡ count) }
     ensures parts { IfOk result (λ ws. left.new.parts + vec_len ws ≡ left.old.parts) }
     ensures counted { IfOk result (λ _. counted_by left.new.shards ≡ counted_by left.old.shards) }

@@ -1,16 +1,16 @@
 //! The operator of a run.
 
-ghost use Rattle.std.specs.Prelude.{◌≡◌, ◌<◌, map, IfOk, IfSome, Some};
+ghost use Rattle.std.specs.Prelude.{◌≡◌, ◌+◌, ◌<◌, length, map, slice_index_or, slice_set, IfOk, IfSome, None, OnErr, OnOk, Some};
 ghost use Rattle.ap_books.specs.Counts.{none};
 ghost use Rattle.ap_books.specs.Reading.{Reads};
 ghost use Rattle.ap_live.specs.Counting.{counted_by, tally};
 ghost use Rattle.versions.specs.Sets.{set_of};
 ghost use Rattle.hook_judge.specs.Sums.{no_counts};
 ghost use Rattle.apd_run.specs.InForce.{budget_shown, budgets_of, row_shown, rows_of, with_counts};
-ghost use Rattle.apd_run.specs.Hands.{crew_of, work_of};
+ghost use Rattle.apd_run.specs.Hands.{claims, crew_of, work_of};
 ghost use Rattle.apd_run.specs.Deciding.{Accounts, TookOf};
-ghost use Rattle.apd_run.specs.Work.{Does, IsWord, Meets};
-ghost use Rattle.apd_script.specs.Asked.{Adopt, Load, Unload};
+ghost use Rattle.apd_run.specs.Work.{Does, Meets};
+ghost use Rattle.apd_script.specs.Asked.{Adopt, Load, Read, Store, Sum, Unload};
 ghost use Rattle.apd_driver.specs.Tallies.{told_counts};
 ghost use Rattle.apd_driver.specs.Crews.{Works, gains, with_one_more};
 
@@ -44,8 +44,9 @@ pub(crate) struct Sources<'a, F> {
     pub(crate) limits: Limits,
 }
 
-/// The operator of a run: its token, the parts of the ledgers, the pages and the handles of queues that no worker has, what
-/// these parts have counted, what was counted of the programs in force, and their sources. Contracts see all of it.
+/// The operator of a run: its token, the parts of the ledgers, the pages and the handles of queues that no worker has, of
+/// how many items of each worker's queue it took over what became of them, what these parts have counted, what was counted
+/// of the programs in force, and their sources. Contracts see all of it.
 #[derive(Drop)]
 pub struct LiveOperator<'a, B: Ledgers + Journals, L: Names, F: Files> {
     pub(crate) ap: &'a LiveAp<B>,
@@ -54,6 +55,7 @@ pub struct LiveOperator<'a, B: Ledgers + Journals, L: Names, F: Files> {
     pub(crate) pages: Box<AllPages<B>>,
     pub(crate) parts: u64,
     pub(crate) passes: LinePasses,
+    pub(crate) taken: [u64; 8],
     pub(crate) totals: Totals,
     pub(crate) workers: u64,
     pub(crate) loads: &'a mut Loads,
@@ -75,6 +77,7 @@ impl<'a, B: Ledgers + Journals, L: Names, F: Files> Model for LiveOperator<'a, B
       pages = o.pages.value;
       parts = o.parts;
       passes = o.passes;
+      taken = o.taken;
       totals = o.totals;
       workers = o.workers;
       loads = o.loads.now;
@@ -91,6 +94,7 @@ impl<'a, B: Ledgers + Journals, L: Names, F: Files> Model for LiveOperator<'a, B
       pages = o.pages.value;
       parts = o.parts;
       passes = o.passes;
+      taken = o.taken;
       totals = o.totals;
       workers = o.workers;
       loads = o.loads.now;
@@ -157,7 +161,9 @@ impl<'a, B: Ledgers + Journals, L: Names, F: Files> LiveOperator<'a, B, L, F> {
 
     /// Stores a number in a word of a shared map, if there is such a word.
     fn store(&mut self, at: MapWord, value: u64)
-        ensures same { crew_of F.held self.new ≡ crew_of F.held self.old }
+        ensures works { Works (crew_of F.held self.old) (crew_of F.held self.new) }
+        ensures does { Does (work_of F.held self.old) (work_of F.held self.new)
+            (Store at value) None }
     {
         let map = at.map as usize;
         if !self.ap.has_word(Scope::Shared, map, at.word) {
@@ -168,8 +174,8 @@ impl<'a, B: Ledgers + Journals, L: Names, F: Files> LiveOperator<'a, B, L, F> {
 
     /// The number in a word of a shared map, if there is such a word.
     fn read(&mut self, at: MapWord) -> Option<Told>
-        ensures same { crew_of F.held self.new ≡ crew_of F.held self.old }
-        ensures value { IfSome result IsWord }
+        ensures works { Works (crew_of F.held self.old) (crew_of F.held self.new) }
+        ensures does { Does (work_of F.held self.old) (work_of F.held self.new) (Read at) result }
         ensures nothing { IfSome result (λ told. told_counts told ≡ none) }
     {
         let map = at.map as usize;
@@ -182,8 +188,8 @@ impl<'a, B: Ledgers + Journals, L: Names, F: Files> LiveOperator<'a, B, L, F> {
 
     /// The sum of a word of a worker map over all workers, if there is such a word.
     fn sum(&mut self, at: MapWord) -> Option<Told>
-        ensures same { crew_of F.held self.new ≡ crew_of F.held self.old }
-        ensures value { IfSome result IsWord }
+        ensures works { Works (crew_of F.held self.old) (crew_of F.held self.new) }
+        ensures does { Does (work_of F.held self.old) (work_of F.held self.new) (Sum at) result }
         ensures nothing { IfSome result (λ told. told_counts told ≡ none) }
     {
         let map = at.map as usize;
@@ -220,15 +226,30 @@ impl<'a, B: Ledgers + Journals, L: Names, F: Files> LiveOperator<'a, B, L, F> {
     }
 
     /// Takes over a worker's counts, also those of the runs of its programs, gives it fresh parts of the ledgers, and
-    /// returns what became of its events.
-    fn exchange<G: Drop>(&mut self, worker: &mut LiveWorker<'a, B, L, G>) -> Vec<Tagged>
-        ensures crew { crew_of F.held self.new ≡ gains (crew_of F.held self.old) (tally result.items) }
-        ensures accounts { Accounts worker.old.token result.items }
-        ensures programs { self.new.programs
-            ≡ with_counts self.old.programs worker.old.token.held.counts }
-        ensures worker { counted_by worker.new.token.shards ≡ none }
-        ensures anew { worker.new.token.held.counts ≡ no_counts }
+    /// returns what became of its events: of the next items of its queue. Err: it gave another number of them than was
+    /// taken over, which can't happen.
+    fn exchange<G: Drop>(
+        &mut self,
+        worker: &mut LiveWorker<'a, B, L, G>,
+    ) -> Result<Vec<Tagged>, AllocError>
+        ensures crew { IfOk result (λ handled. crew_of F.held self.new
+            ≡ gains (claims (crew_of F.held self.old) worker.old.number (length handled.items))
+            (tally handled.items)) }
+        ensures number { OnOk result (worker.old.number ≡ worker.old.token.number) }
+        ensures below { OnOk result (worker.old.number
+            < length (work_of F.held self.old).taken) }
+        ensures agrees { OnOk result (slice_index_or (work_of F.held self.old).taken
+            worker.old.number 0 ≡ worker.old.given) }
+        ensures accounts { IfOk result
+            (λ handled. Accounts worker.old.given worker.old.token handled.items) }
+        ensures programs { OnOk result (self.new.programs
+            ≡ with_counts self.old.programs worker.old.token.held.counts) }
+        ensures worker { OnOk result (counted_by worker.new.token.shards ≡ none) }
+        ensures anew { OnOk result (worker.new.token.held.counts ≡ no_counts) }
     {
+        let many = worker.handled.len() as u64;
+        let given = claim(&mut self.taken, worker.number, worker.given, many)?;
+        worker.given = given;
         let runs = worker.token.take_counts();
         self.programs.add(&runs);
         let handled = mem::replace(&mut worker.handled, Vec::new(worker.alloc));
@@ -237,7 +258,7 @@ impl<'a, B: Ledgers + Journals, L: Names, F: Files> LiveOperator<'a, B, L, F> {
         let counted = worker.token.renew(fresh);
         self.hoard.merge(counted);
         self.totals = self.totals.and(numbers);
-        handled
+        Ok(handled)
     }
 
     /// Tells a worker of the loads so far.
@@ -284,6 +305,25 @@ impl<'a, B: Ledgers + Journals, L: Names, F: Files> LiveOperator<'a, B, L, F> {
             Err(_) => ap.gather(rt, &mut *hoard),
         }
     }
+}
+
+/// Notes that `many` more items of a worker's queue are taken over, if `given` were before, and returns how many they are
+/// then. Err: `given` is another number, which can't happen.
+fn claim(taken: &mut [u64; 8], number: usize, given: u64, many: u64) -> Result<u64, AllocError>
+    ensures below { OnOk result (number < length taken.old) }
+    ensures agrees { OnOk result (slice_index_or taken.old number 0 ≡ given) }
+    ensures sum { IfOk result (λ all. all ≡ given + many) }
+    ensures noted { OnOk result (taken.new ≡ slice_set taken.old number (given + many)) }
+    ensures refused { OnErr result (taken.new ≡ taken.old) }
+{
+    if number >= taken.len() || taken[number] != given {
+        return Err(AllocError);
+    }
+    let Some(all) = given.checked_add(many) else {
+        return Err(AllocError);
+    };
+    taken[number] = all;
+    Ok(all)
 }
 
 /// The part of an event that is still to be submitted.
@@ -384,7 +424,7 @@ impl<'a, B: Ledgers + Journals, L: Names, F: Files, G: Drop> Operating<LiveWorke
     ) -> Result<(), AllocError> {
         self.meet_at_queue(worker);
         self.meet(worker);
-        let handled = self.exchange(worker);
+        let handled = self.exchange(worker)?;
         self.tell(worker);
         report_all(reports, handled)?;
         Ok(())

@@ -8,7 +8,7 @@ ghost use Rattle.ap_live.specs.Opening.{parts_in_all};
 ghost use Rattle.ap_live.specs.Tokens.{IsWorker};
 ghost use Rattle.ap_shards.specs.Opening.{AreNamed};
 ghost use Rattle.ap_shards.specs.Pages.{HasPages};
-ghost use Rattle.apd_run.specs.Dealing.{AreHands, AreRest, IsNewOperator, IsNewWorker};
+ghost use Rattle.apd_run.specs.Dealing.{AreHands, AreNumberedFrom, AreRest, IsNewOperator, IsNewWorker};
 ghost use Rattle.apd_run.specs.Hands.{crew_of};
 ghost use Rattle.apd_driver.specs.Captures.{KeepsWhole};
 ghost use Rattle.apd_driver.specs.Shows.{IsBroken};
@@ -79,18 +79,22 @@ where
     G: Gate + Copy,
     requires own { All (IsWorker ap.now) tokens.items }
     requires new { All IsNewWorker tokens.items }
+    requires numbered { AreNumberedFrom 0 tokens.items }
     requires named { ap.now ≡ L.ap }
     ensures many { IfOk result (λ ready. vec_len ready ≡ vec_len tokens) }
 {
     let mut tokens = tokens;
     let mut ready = Vec::with_capacity(alloc, tokens.len())?;
     'tokens: while let Some(token) = tokens.pop() {
+        let number = tokens.len();
         ready.push_reserved(Ready {
             worker: LiveWorker {
                 ap,
                 alloc,
                 gate,
+                number,
                 token,
+                given: 0,
                 handled: Vec::new(alloc),
                 list: PhantomData,
             },
@@ -126,7 +130,7 @@ where
     requires list { loads.old.list ≡ L.ap.list.list }
     requires no_loads { loads.old.loads ≡ [] }
     ensures workers { (crew_of F.held result).workers ≡ workers }
-    ensures new { IsNewCrew (F.held sources.entry.files.now) sources.entry.limits
+    ensures new { IsNewCrew (F.held sources.entry.files.now) sources.entry.limits B.config
         (crew_of F.held result) }
 {
     let Kept {
@@ -142,6 +146,7 @@ where
         pages,
         parts,
         passes,
+        taken: [0; 8],
         totals: Totals::new(),
         workers,
         loads,
@@ -179,7 +184,7 @@ where
     requires named { ap.now ≡ L.ap }
     requires loads { equipment.loads.list ≡ L.ap.list.list }
     requires no_loads { equipment.loads.loads ≡ [] }
-    ensures runs { RunsNew (F.held supplies.entry.files.now) supplies.entry.limits
+    ensures runs { RunsNew (F.held supplies.entry.files.now) supplies.entry.limits B.config
         (P.manner writer) (S.script lines) (P.contents writer) (P.contents result.0) result.1 }
     ensures keeps { result.1 < 2 → KeepsWhole (P.manner writer).form (S.script lines)
         (P.contents writer) (P.contents result.0)
@@ -238,7 +243,8 @@ where
     requires config { opening.settings.link ≡ B.config }
     requires shares { B.shares ≡ parts_in_all }
     ensures runs { RunsNew (F.held supplies.entry.files.now) supplies.entry.limits
-        (P.manner writer) (S.script lines) (P.contents writer) (P.contents result.0) result.1 }
+        opening.settings.link (P.manner writer) (S.script lines)
+        (P.contents writer) (P.contents result.0) result.1 }
     ensures keeps { result.1 < 2 → KeepsWhole (P.manner writer).form (S.script lines)
         (P.contents writer) (P.contents result.0)
         (P.recorded writer) (P.recorded result.0) }

@@ -9,14 +9,17 @@ use std::alloc::{AllocError, Global};
 use std::marker::{Model, PhantomData};
 use std::sync::Wait;
 
-/// A worker of a run: its token, what it needs for each event, and what became of each since the operator last took over
-/// its counts, which are what these count. Contracts see the access point, the token and the list.
+/// A worker of a run: its token and number, what it needs for each event, how many items it had taken when the operator
+/// last took over its counts, and what became of each since then, which is what these count. Contracts see the access
+/// point, the number, the token, how many and the list.
 #[derive(Drop)]
 pub struct LiveWorker<'a, B: Ledgers + Journals, L: Names, G: Drop> {
     pub(crate) ap: &'a LiveAp<B>,
     pub(crate) alloc: Global,
     pub(crate) gate: G,
+    pub(crate) number: usize,
     pub(crate) token: WorkerToken<B>,
+    pub(crate) given: u64,
     pub(crate) handled: Vec<Tagged>,
     pub(crate) list: PhantomData<L>,
 }
@@ -26,10 +29,10 @@ impl<'a, B: Ledgers + Journals, L: Names, G: Drop> Model for LiveWorker<'a, B, L
 
     ghost Value = { RunWorker };
 
-    ghost view = { λ w. record { ap = w.ap.now; token = w.token; handled = w.handled.items } };
+    ghost view = { λ w. record { ap = w.ap.now; number = w.number; given = w.given; token = w.token; handled = w.handled.items } };
 
     ghost invariant = { λ w. IsRunWorker L.ap
-        (record { ap = w.ap.now; token = w.token; handled = w.handled.items }) };
+        (record { ap = w.ap.now; number = w.number; given = w.given; token = w.token; handled = w.handled.items }) };
 }
 
 impl<'a, B: Ledgers + Journals, L: Names, G: Gate + Drop> Serving for LiveWorker<'a, B, L, G> {

@@ -1,11 +1,11 @@
 //! The commands `apd run` and `apd live`.
 
-ghost use Rattle.std.specs.Prelude.{◌≡◌, ◌<◌, ◌≤◌, None, IfErr, OnOk};
+ghost use Rattle.std.specs.Prelude.{◌≡◌, ◌<◌, ◌≤◌, None, IfErr, IfOk, OnOk};
 ghost use Rattle.apd_driver.specs.Captures.{KeepsWhole};
 ghost use Rattle.apd_driver.specs.Capturing.{AreKnown, Begins};
 ghost use Rattle.apd_driver.specs.Shows.{IsBroken};
 ghost use Rattle.apd_run.specs.Captured.{KeepsCapture, KeepsScript};
-ghost use Rattle.apd_run.specs.NewRuns.{RunsNew, RunsScript};
+ghost use Rattle.apd_run.specs.NewRuns.{IsConfigurationAt, RunsInput, RunsNew, RunsScript, link_of};
 
 use crate::access::{NewShards, Opening, Supplies, run_live};
 use crate::progress::Watcher;
@@ -72,7 +72,7 @@ fn last_line(commands: &[Numbered<'_>]) -> u64 {
     }
 }
 
-/// Runs lines on a new access point.
+/// Runs lines on a new access point, under a configuration.
 fn run_task<R, F, G, L, P>(
     rt: &R,
     alloc: Global,
@@ -90,7 +90,7 @@ where
     requires some { 1 ≤ workers }
     requires few { workers ≤ 8 }
     ensures runs { RunsNew (F.held supplies.entry.files.now) supplies.entry.limits
-        (P.manner writer) (L.script task.lines)
+        (link_of task.configuration) (P.manner writer) (L.script task.lines)
         (P.contents writer) (P.contents result.0) result.1 }
     ensures keeps { result.1 < 2 → KeepsWhole (P.manner writer).form (L.script task.lines)
         (P.contents writer) (P.contents result.0)
@@ -149,7 +149,7 @@ where
     P: Recording + Drop,
     E: Write,
     ensures runs { RunsNew (F.held supplies.entry.files.now) supplies.entry.limits
-        words.entry.manner (L.script task.lines)
+        (link_of task.configuration) words.entry.manner (L.script task.lines)
         (P.contents out) (P.contents result.0) result.1 }
     ensures keeps { result.1 < 2 → KeepsWhole words.entry.manner.form (L.script task.lines)
         (P.contents out) (P.contents result.0)
@@ -208,7 +208,7 @@ where
     P: Recording + Drop,
     E: Write,
     ensures runs { RunsScript (F.held supplies.entry.files.now) supplies.entry.limits
-        words.entry.script.now words.entry.manner
+        words.entry.config.now words.entry.script.now words.entry.manner
         (P.contents out) (P.contents result.0) result.1 }
     ensures keeps { result.1 < 2 → KeepsScript (F.held supplies.entry.files.now)
         words.entry.script.now (AreKnown P.recorded) words.entry.manner.form
@@ -271,8 +271,9 @@ where
     S: Source + Drop,
     P: Recording + Drop,
     E: Write,
-    ensures runs { RunsNew (F.held supplies.entry.files.now) supplies.entry.limits
-        words.entry.manner None (P.contents streams.out) (P.contents result.0) result.1 }
+    ensures runs { RunsInput (F.held supplies.entry.files.now) supplies.entry.limits
+        words.entry.config.now words.entry.manner
+        (P.contents streams.out) (P.contents result.0) result.1 }
     ensures keeps { result.1 < 2 → KeepsCapture (AreKnown P.recorded) words.entry.manner.form None
         (P.contents streams.out) (P.contents result.0)
         (P.recorded streams.out) (P.recorded result.0) }
@@ -311,6 +312,7 @@ fn live_configuration<F: Files, E: Write>(
     err: &mut E,
 ) -> Result<Configuration, RunFault>
     ensures same { F.held files.new ≡ F.held files.old }
+    ensures read { IfOk result (IsConfigurationAt (F.held files.old) path.now) }
 {
     if let Err(why) = files.open(INPUT) {
         return Err(unreadable(alloc, INPUT, why));

@@ -2,6 +2,7 @@
 
 ghost use Rattle.std.specs.Prelude.{◌≡◌, ◌<◌, ◌≤◌, IfOk};
 ghost use Rattle.apd_files.specs.Held.{Holds};
+ghost use Rattle.apd_run.specs.NewRuns.{IsConfigurationAt, link_of};
 
 use crate::access::Settings;
 use crate::runner::fault::{RunFault, of_configuration, unreadable};
@@ -34,6 +35,7 @@ pub(crate) fn configuration<F: Files>(
     files: &mut F,
 ) -> Result<Configuration, RunFault>
     ensures same { F.held files.new ≡ F.held files.old }
+    ensures read { IfOk result (IsConfigurationAt (F.held files.old) path.now) }
 {
     let text = read(alloc, path, FileKind::Configuration, files)?;
     match read_configuration(alloc, text.as_slice()) {
@@ -46,6 +48,7 @@ pub(crate) fn configuration<F: Files>(
 pub(crate) fn settings(configuration: Configuration, workers: u8) -> Settings
     ensures workers { result.workers ≡ workers }
     ensures shapes { result.shapes ≡ configuration.maps }
+    ensures link { result.link ≡ link_of configuration }
 {
     let Configuration {
         bssid,

@@ -11,7 +11,7 @@ returns-in-Ok-Run g c = record {
       let P : Wanted → Type 0 = λ v. Fulfils c.args.streams.shown (g.F.Files.held c.args.files.now) v (g.O.Write.contents c.args.streams.out) (g.O.Write.contents c.run_script.result.0) c.run_script.result.1 in
       subst P ((rw c.in-Ok-Run.field-0-is at c.in-Ok-Run.ensures.spelled) w spelled) (rw c.output_of-out.ensures.is at c.run_script.ensures.runs);
   captures = λ w spelled few.
-      let P : Wanted → Type 0 = λ v. CapturesInPlace (AreWritten g.O.Write.contents) (g.F.Files.held c.args.files.now) v (g.O.Write.contents c.args.streams.out) (g.O.Write.contents c.run_script.result.0) in
+      let P : Wanted → Type 0 = λ v. CapturesInPlace c.args.streams.shown (AreWritten g.O.Write.contents) (g.F.Files.held c.args.files.now) v (g.O.Write.contents c.args.streams.out) (g.O.Write.contents c.run_script.result.0) in
       subst P ((rw c.in-Ok-Run.field-0-is at c.in-Ok-Run.ensures.spelled) w spelled) (rw c.output_of-out.ensures.is at (c.run_script.ensures.captures few));
 }
 
@@ -21,8 +21,8 @@ returns-in-Ok-Live g c = record {
       let P : Wanted → Type 0 = λ v. Fulfils c.args.streams.shown (g.F.Files.held c.args.files.now) v (g.O.Write.contents c.args.streams.out) (g.O.Write.contents c.run_input.result.0) c.run_input.result.1 in
       subst P ((rw c.in-Ok-Live.field-0-is at c.in-Ok-Live.ensures.spelled) w spelled) c.run_input.ensures.runs;
   captures = λ w spelled few.
-      let P : Wanted → Type 0 = λ v. CapturesInPlace (AreWritten g.O.Write.contents) (g.F.Files.held c.args.files.now) v (g.O.Write.contents c.args.streams.out) (g.O.Write.contents c.run_input.result.0) in
-      subst P ((rw c.in-Ok-Live.field-0-is at c.in-Ok-Live.ensures.spelled) w spelled) tt;
+      let P : Wanted → Type 0 = λ v. CapturesInPlace c.args.streams.shown (AreWritten g.O.Write.contents) (g.F.Files.held c.args.files.now) v (g.O.Write.contents c.args.streams.out) (g.O.Write.contents c.run_input.result.0) in
+      subst P ((rw c.in-Ok-Live.field-0-is at c.in-Ok-Live.ensures.spelled) w spelled) (c.run_input.ensures.captures few);
 }
 
 pub returns-in-Ok-Answer : goal.returns-in-Ok-Answer
@@ -31,7 +31,7 @@ returns-in-Ok-Answer g c = record {
       let P : Wanted → Type 0 = λ v. Fulfils c.args.streams.shown (g.F.Files.held c.args.files.now) v (g.O.Write.contents c.args.streams.out) (g.O.Write.contents c.respond-status.new.out) c.respond-status.result in
       subst P ((rw c.in-Ok-Answer.field-0-is at c.in-Ok-Answer.ensures.spelled) w spelled) (rw c.output_of-out-in-Ok-Answer.ensures.is at c.respond-status.ensures.is);
   captures = λ w spelled few.
-      let P : Wanted → Type 0 = λ v. CapturesInPlace (AreWritten g.O.Write.contents) (g.F.Files.held c.args.files.now) v (g.O.Write.contents c.args.streams.out) (g.O.Write.contents c.respond-status.new.out) in
+      let P : Wanted → Type 0 = λ v. CapturesInPlace c.args.streams.shown (AreWritten g.O.Write.contents) (g.F.Files.held c.args.files.now) v (g.O.Write.contents c.args.streams.out) (g.O.Write.contents c.respond-status.new.out) in
       subst P ((rw c.in-Ok-Answer.field-0-is at c.in-Ok-Answer.ensures.spelled) w spelled) tt;
 }
 
@@ -41,7 +41,7 @@ returns-in-Ok-Test g c = record {
       let P : Wanted → Type 0 = λ v. Fulfils c.args.streams.shown (g.F.Files.held c.args.files.now) v (g.O.Write.contents c.args.streams.out) (g.O.Write.contents c.judge_cases-status.new.out) c.judge_cases-status.result in
       subst P ((rw c.in-Ok-Test.field-0-is at c.in-Ok-Test.ensures.spelled) w spelled) (rw c.output_of-out-in-Ok-Test.ensures.is at (rw c.as_slice.ensures.value at c.judge_cases-status.ensures.is));
   captures = λ w spelled few.
-      let P : Wanted → Type 0 = λ v. CapturesInPlace (AreWritten g.O.Write.contents) (g.F.Files.held c.args.files.now) v (g.O.Write.contents c.args.streams.out) (g.O.Write.contents c.judge_cases-status.new.out) in
+      let P : Wanted → Type 0 = λ v. CapturesInPlace c.args.streams.shown (AreWritten g.O.Write.contents) (g.F.Files.held c.args.files.now) v (g.O.Write.contents c.args.streams.out) (g.O.Write.contents c.judge_cases-status.new.out) in
       subst P ((rw c.in-Ok-Test.field-0-is at c.in-Ok-Test.ensures.spelled) w spelled) tt;
 }
 

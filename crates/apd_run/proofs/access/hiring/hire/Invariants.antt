@@ -3,7 +3,7 @@ use Rattle.std.specs.List.{All}
 use Rattle.ap_queues.specs.Lines.{HaveMade}
 use Rattle.ap_live.specs.Counting.{counted_by}
 use Rattle.ap_live.specs.Tokens.{AreLeft, IsWorker}
-use Rattle.apd_run.specs.Dealing.{IsNewWorker}
+use Rattle.apd_run.specs.Dealing.{AreNumberedFrom, IsNewWorker}
 use Rattle.apd_run.proofs.access.hiring.hire.Given as goal
 
 abbrev pub invariant-loop-number : goal.invariant-loop-number
@@ -14,6 +14,7 @@ invariant-loop-number g l =
       all : l.ap.stock.workers ≡ l.count;
       own : All (IsWorker l.ap) l.tokens.items;
       new_workers : All IsNewWorker l.tokens.items;
+      numbered : AreNumberedFrom 0 l.tokens.items;
       many : vec_len l.tokens ≡ l.number;
       parts : l.left.parts + vec_len l.tokens ≡ l.initial.left.parts;
       counted : counted_by l.left.shards ≡ counted_by l.initial.left.shards;

@@ -8,6 +8,8 @@ returns-clause-new g c =
       nothing = c.requires.nothing;
       files_are = refl;
       limits_are = refl;
+      config_is = refl;
       unput = c.requires.new.unput ∙ ap (λ (n : ℕ). replicate n []) c.requires.each;
+      untaken = refl;
       no_loads = c.requires.no_loads;
     }

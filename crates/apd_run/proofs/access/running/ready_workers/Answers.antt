@@ -1,8 +1,9 @@
-use Rattle.std.proofs.Common.{Some, arith}
+use Rattle.std.proofs.Common.{Some, ap, arith, length, sym, ◌∙◌}
 use Rattle.std.proofs.lemmas.List.Elements.{All-pop}
 use Rattle.ap_live.specs.Tokens.{IsWorker}
 use Rattle.apd_run.specs.Dealing.{IsNewWorker}
 use Rattle.apd_run.proofs.Deciding.{accounts_none}
+use Rattle.apd_run.proofs.Numbering.{numbered_less}
 use Rattle.apd_run.proofs.Served.{nothing_counted}
 use Rattle.apd_run.proofs.access.running.ready_workers.Goals as goal
 
@@ -10,7 +11,8 @@ pub invariant_of-push_reserved : goal.invariant_of-push_reserved
 invariant_of-push_reserved g c =
     let own = All-pop (IsWorker c.args.ap.now) c.tokens.tokens.items c.pop.new.self.items (Some c.in-Some.token) c.in-Some.ensures.items c.tokens.invariant.own in
     let new = All-pop IsNewWorker c.tokens.tokens.items c.pop.new.self.items (Some c.in-Some.token) c.in-Some.ensures.items c.tokens.invariant.new_workers in
-    record { own = own.1; ap_is = c.requires.named; parts = new.1.parts; counts = nothing_counted _ _ new.1.nothing c.new.ensures.items; accounts = accounts_none _ _ c.new.ensures.items new.1.unowned }
+    let last = numbered_less c.tokens.tokens.items c.pop.new.self.items c.in-Some.token c.in-Some.ensures.items c.tokens.invariant.numbered in
+    record { own = own.1; number_is = c.len-number.ensures ∙ (c.pop.new.self.ok.0 ∙ sym last.1); ap_is = c.requires.named; parts = new.1.parts; counts = nothing_counted _ _ new.1.nothing c.new.ensures.items; accounts = accounts_none _ _ _ (ap length new.1.untaken) c.new.ensures.items new.1.unowned }
 
 pub invariant_of-push_reserved-in-Some : goal.invariant_of-push_reserved-in-Some
 invariant_of-push_reserved-in-Some g c =
@@ -24,6 +26,7 @@ tokens-preserved g c =
     record {
       own = own.0;
       new_workers = new.0;
+      numbered = (numbered_less c.tokens.tokens.items c.pop.new.self.items c.in-Some.token c.in-Some.ensures.items c.tokens.invariant.numbered).0;
       many = omega (arith, c.push_reserved.ensures.len, c.in-Some.ensures.len, c.tokens.invariant.many);
       room = omega (arith, c.push_reserved.ensures.capacity, c.tokens.invariant.room);
     }

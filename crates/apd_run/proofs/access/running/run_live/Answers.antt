@@ -1,5 +1,7 @@
+use Rattle.std.proofs.Common.{sym}
 use Rattle.apd_run.specs.NewRuns.{NotBegun}
 use Rattle.apd_run.proofs.Captured.{if_low}
+use Rattle.apd_run.proofs.NewRuns.{runs_under}
 use Rattle.apd_run.proofs.access.running.run_live.Goals as goal
 
 pub returns-in_default : goal.returns-in_default
@@ -15,3 +17,6 @@ returns-in_default-deal g c =
       runs = NotBegun _ c.without_memory-in_default-deal.ensures.same c.without_memory-in_default-deal.ensures.broken;
       keeps = if_low _ c.without_memory-in_default-deal.ensures.broken;
     }
+
+pub returns : goal.returns
+returns g c = record { runs = runs_under _ (sym c.requires.config) c.run_with.ensures.runs; keeps = c.run_with.ensures.keeps }

@@ -28,6 +28,6 @@ pub returns : goal.returns
 returns g c =
     let lines_are = ap (λ (l : List Numbered). Some (commands_of l)) c.as_slice-commands.ensures.value in
     record {
-      runs = runs_read _ c.configuration.ensures.same c.read.ensures.same c.in-Ok-read.ensures.text c.as_slice.ensures.value c.in-Ok-read_script.ensures.script lines_are c.begun.ensures.output c.run_told.ensures.runs;
+      runs = runs_read _ c.in-Ok.ensures.read c.configuration.ensures.same c.read.ensures.same c.in-Ok-read.ensures.text c.as_slice.ensures.value c.in-Ok-read_script.ensures.script lines_are c.begun.ensures.output c.run_told.ensures.runs;
       keeps = λ low. keeps_read _ c.configuration.ensures.same c.in-Ok-read.ensures.text c.as_slice.ensures.value c.in-Ok-read_script.ensures.script lines_are c.begun.ensures.output c.in_default.ensures.heading (c.run_told.ensures.keeps low);
     }

@@ -1,12 +1,17 @@
 use Rattle.std.proofs.Common.{ap, ◌∙◌}
 use Rattle.ap_live.specs.Tokens.{Operator}
 use Rattle.apd_run.proofs.Keeping.{other_token}
-use Rattle.apd_run.proofs.Operated.{same_lines}
+use Rattle.apd_run.proofs.Operated.{store_does, stores_nothing, works}
 use Rattle.apd_run.proofs.access.operator.LiveOperator.store.Goals as goal
 
 pub invariant_of-self : goal.invariant_of-self
 invariant_of-self g c = other_token _ _ _ _ c.store.ensures.own (ap (λ (o : Operator). o.shards) c.store.ensures.same ∙ ap (λ (o : Operator). o.shards) c.deref_mut.ensures.value) c.self.invariant
 
-pub returns : goal.returns
-returns g c =
-    record { same = same_lines g.F.Files.held _ _ c.store.new.operator _ c.self.view_is c.deref_mut.ensures.value (ap (λ (o : Operator). o.lines) c.store.ensures.same) (ap (λ (o : Operator). o.shards) c.store.ensures.same) }
+pub returns-clause-works : goal.returns-clause-works
+returns-clause-works g c = works g.F.Files.held _ _ _ c.self.view_is
+
+pub returns-clause-does : goal.returns-clause-does
+returns-clause-does g c = store_does g.F.Files.held _ _ c.store.new.operator _ _ _ c.self.view_is c.deref_mut.ensures.value c.store.ensures.same c.store.ensures.made
+
+pub returns-then-not-has_word-clause-does : goal.returns-then-not-has_word-clause-does
+returns-then-not-has_word-clause-does g c = stores_nothing g.F.Files.held _ _ _ _ c.self.view_is (λ there. let h = c.if-not-has_word.ensures.1 there in absurd (cc))

@@ -15,7 +15,7 @@ pub invariant_of-self : goal.invariant_of-self
 invariant_of-self g c = other_loads _ _ _ _ _ _ (ap (λ (b : Beginning). b.list) c.tell-news.ensures.same) (same_budgets _ _ _ c.tell-news.ensures.same c.self.invariant.in_force) c.self.invariant
 
 pub invariant_of-worker : goal.invariant_of-worker
-invariant_of-worker g c = same_parts _ _ _ c.learn.ensures.own (ap (λ (w : Worker). taken_by w.pass) c.learn.ensures.same) (ap (λ (w : Worker). w.shards) c.learn.ensures.same) c.worker.invariant
+invariant_of-worker g c = same_parts _ _ _ c.learn.ensures.own (ap (λ (w : Worker). w.number) c.learn.ensures.same) (ap (λ (w : Worker). taken_by w.pass) c.learn.ensures.same) (ap (λ (w : Worker). w.shards) c.learn.ensures.same) c.worker.invariant
 
 pub returns-clause-same : goal.returns-clause-same
 returns-clause-same g c = told_crew g.F.Files.held _ _ _ c.self.view_is c.tell-news.ensures.same

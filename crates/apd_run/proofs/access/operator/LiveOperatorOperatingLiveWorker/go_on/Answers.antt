@@ -26,7 +26,7 @@ pub returns-in-Ok : goal.returns-in-Ok
 returns-in-Ok g c =
     record {
       works = works g.F.Files.held _ _ _ c.self.view_is;
-      puts = λ k. put_tick g.F.Files.held _ _ c.submit_at.new.operator _ _ _ _ _ c.self.view_is c.deref_mut.ensures.value (ap (λ (o : Operator). o.shards) c.submit_at.ensures.same) c.if-shard-ge8.false c.in-Tick.is c.in-Ok.ensures.put;
+      puts = λ k. put_tick g.F.Files.held _ _ c.submit_at.new.operator _ _ _ _ _ c.self.view_is c.deref_mut.ensures.value c.submit_at.ensures.same c.if-shard-ge8.false c.in-Tick.is c.in-Ok.ensures.put;
       waits = λ k. tt;
     }
 
@@ -35,14 +35,14 @@ returns-in-Err g c =
     record {
       works = works g.F.Files.held _ _ _ c.self.view_is;
       puts = λ k. tt;
-      waits = λ k. waits_tick g.F.Files.held _ _ _ c.submit_at.new.operator _ _ _ _ _ _ _ c.self.view_is c.deref_mut.ensures.value (ap (λ (o : Operator). o.shards) c.submit_at.ensures.same) c.if-shard-ge8.false c.in-Tick.is c.in-Err.ensures.refused c.waiting_for.ensures.is;
+      waits = λ k. waits_tick g.F.Files.held _ _ _ c.submit_at.new.operator _ _ _ _ _ _ _ c.self.view_is c.deref_mut.ensures.value c.submit_at.ensures.same c.if-shard-ge8.false c.in-Tick.is c.in-Err.ensures.refused c.waiting_for.ensures.is;
     }
 
 pub returns-in-Ok-submit : goal.returns-in-Ok-submit
 returns-in-Ok-submit g c =
     record {
       works = works g.F.Files.held _ _ _ c.self.view_is;
-      puts = λ k. put_there g.F.Files.held _ _ c.submit.new.operator _ _ _ _ c.self.view_is c.deref_mut-in_default.ensures.value (ap (λ (o : Operator). o.shards) c.submit.ensures.same) (starts_there _ _ c.in_default.not-Tick k) c.in-Ok-submit.ensures.put;
+      puts = λ k. put_there g.F.Files.held _ _ c.submit.new.operator _ _ _ _ c.self.view_is c.deref_mut-in_default.ensures.value c.submit.ensures.same (starts_there _ _ c.in_default.not-Tick k) c.in-Ok-submit.ensures.put;
       waits = λ k. tt;
     }
 
@@ -51,5 +51,5 @@ returns-in-Err-submit g c =
     record {
       works = works g.F.Files.held _ _ _ c.self.view_is;
       puts = λ k. tt;
-      waits = λ k. waits_there g.F.Files.held _ _ _ c.submit.new.operator _ _ _ _ _ _ c.self.view_is c.deref_mut-in_default.ensures.value (ap (λ (o : Operator). o.shards) c.submit.ensures.same) (starts_there _ _ c.in_default.not-Tick k) c.in-Err-submit.ensures.refused c.waiting_for-in-Err-submit.ensures.is;
+      waits = λ k. waits_there g.F.Files.held _ _ _ c.submit.new.operator _ _ _ _ _ _ c.self.view_is c.deref_mut-in_default.ensures.value c.submit.ensures.same (starts_there _ _ c.in_default.not-Tick k) c.in-Err-submit.ensures.refused c.waiting_for-in-Err-submit.ensures.is;
     }

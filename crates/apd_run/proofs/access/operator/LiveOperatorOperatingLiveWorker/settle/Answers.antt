@@ -8,6 +8,6 @@ pub returns : goal.returns
 returns g c =
     record {
       collects = collects_after _ _ _ _ _ c.meet_at_queue.ensures.same
-          (collects_met _ _ _ _ _ _ _ (took_still _ _ _ c.meet.ensures.same c.meet_at_queue.ensures.took) c.meet.ensures.works c.meet.ensures.meets c.exchange-handled.ensures.accounts (c.tell.ensures.same ∙ c.exchange-handled.ensures.crew) c.in_ok-report_all.ensures);
-      worker = ap counted_by c.tell.ensures.worker ∙ c.exchange-handled.ensures.worker;
+          (collects_met _ _ _ _ _ _ _ _ _ c.in_ok-handled.ensures.number (took_still _ _ _ c.meet.ensures.same c.meet_at_queue.ensures.took) c.meet.ensures.works c.meet.ensures.meets c.in_ok-handled.ensures.below c.in_ok-handled.ensures.agrees c.in_ok-handled.ensures.accounts (c.tell.ensures.same ∙ c.in_ok-handled.ensures.crew) c.in_ok-report_all.ensures);
+      worker = ap counted_by c.tell.ensures.worker ∙ c.in_ok-handled.ensures.worker;
     }
