@@ -20,7 +20,7 @@ use core::mem::replace_with;
 use std::alloc::AllocError;
 use std::marker::Model;
 use std::sync::Wait;
-use versions::{Entrance, News};
+use versions::{Entrance, News, Publisher};
 
 /// What an access point is made from: its link, the shapes of its maps, the first word that each
 /// worker draws, and the number of workers, from 1 to 8.
@@ -96,6 +96,18 @@ impl<B: Ledgers + Journals> LiveAp<B> {
         replace_with(worker, (self, news), |worker, (ap, news)| {
             (ap.learned(worker, news), ())
         })
+    }
+
+    /// Brings a worker and the publisher together: what the worker has seen of the published loads, or was
+    /// told of, is a prefix of them. Does nothing at run time.
+    pub fn meet_publisher(&self, worker: &WorkerToken<B>, publisher: &mut Publisher)
+        requires own { IsWorker self.now worker.now }
+        requires publisher { publisher.old.list ≡ self.now.list.list }
+        ensures same { publisher.new ≡ publisher.old }
+        ensures seen { Begins worker.now.seen publisher.old }
+    {
+        let _own = &self.entrance;
+        publisher.beginning_law(&worker.reader);
     }
 
     /// The worker, whose reader has learned `news`.

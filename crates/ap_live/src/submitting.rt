@@ -1,8 +1,9 @@
 //! How an operator puts events, and what a worker took of them.
 
-ghost use Rattle.std.specs.Prelude.{◌≡◌, ◌<◌, ◌-◌, IfErr, OnOk};
+ghost use Rattle.std.specs.Prelude.{◌≡◌, ◌<◌, ◌-◌, [], slice_index_or, IfErr, IsTrue, OnOk};
 ghost use Rattle.ap_queues.specs.Lines.{AreAllTakenAt, ArePassesOf, AreTakenAt, HaveMade, numbers_of, puts_of};
 ghost use Rattle.ap_queues.specs.Passes.{taken_by};
+ghost use Rattle.ap_queues.specs.Queues.{items_of};
 ghost use Rattle.ap_queues.specs.Putting.{IsTick, first_shard, shard_count, served};
 ghost use Rattle.ap_queues.specs.Refusing.{StopsAt};
 ghost use Rattle.ap_live.specs.Tokens.{IsOperator, IsWorker};
@@ -81,15 +82,16 @@ impl<B: Ledgers + Journals> LiveAp<B> {
         let WorkerToken { number, pass, .. } = worker;
         self.lines.meet(*number, pass, &mut operator.lines);
     }
+
     /// As `meet`, for the only operator: it put all that the worker took, which is a prefix of what it put
-    /// into the worker's queue, in order, once each. `left` has the handles of the queues that were not
-    /// given. Does nothing at run time.
+    /// into the worker's queue, in order, once each. Returns whether that queue is empty: then the worker
+    /// took all that was put. `left` has the handles of the queues that were not given.
     pub fn meet_alone(
         &self,
         worker: &mut WorkerToken<B>,
         operator: &mut OperatorToken<B>,
         left: &mut LinePasses,
-    )
+    ) -> bool
         requires worker { IsWorker self.now worker.old }
         requires operator { IsOperator self.now operator.old }
         requires left { ArePassesOf self.now.queues left.old }
@@ -99,6 +101,9 @@ impl<B: Ledgers + Journals> LiveAp<B> {
         ensures left { ArePassesOf self.now.queues left.new }
         ensures made { HaveMade 1 left.new }
         ensures order { AreAllTakenAt worker.old.number operator.old.lines worker.old.pass }
+        ensures whole { IsTrue result →
+            slice_index_or (puts_of operator.old.lines) worker.old.number []
+            ≡ items_of (taken_by worker.old.pass) }
         ensures taken { taken_by worker.new.pass ≡ taken_by worker.old.pass }
         ensures put { puts_of operator.new.lines ≡ puts_of operator.old.lines }
         ensures numbers { numbers_of operator.new.lines ≡ numbers_of operator.old.lines }
@@ -107,6 +112,6 @@ impl<B: Ledgers + Journals> LiveAp<B> {
     {
         let WorkerToken { number, pass, .. } = worker;
         self.lines
-            .meet_alone(*number, pass, &mut operator.lines, left);
+            .meet_alone(*number, pass, &mut operator.lines, left)
     }
 }

@@ -3,7 +3,7 @@ use Rattle.std.proofs.Common.{◌≡◌, ◌≢◌, ◌==◌, ◌<◌, ◌≤◌
 use Rattle.std.proofs.lemmas.Bool.Decides.{nat_tests}
 use mathlib.Core.Option.{some, some-ne-none, some-injective}
 use lib.ListN.{get_elem?}
-use Rattle.crossbeam_queue.specs.Fifo.{Pushes, Pops, Forks, Merges, Learns}
+use Rattle.crossbeam_queue.specs.Fifo.{Pushes, Pops, Forks, Merges, Learns, Held}
 use Rattle.std.proofs.lemmas.List.{append-nil, map-append}
 use mathlib.Core.Logic.{dite}
 use native.Mathlib.Decide.{ℕ_discrete}
@@ -310,6 +310,14 @@ learns_all pass v a b c one items views h at =
       own = λ k d low. firsts_at v.taken items k d (subst (λ l. AllFirst l) put_is all) low ∙ sym first;
       put = (mine.2 b).2 ∙ (ap (λ n. of n h.4) first ∙ (all_of h.4 all ∙ (ap items_of put_is ∙ map-append (λ (x : Queued). x.item) v.taken items)));
     }
+
+no_item : (xs : List Queued) → length xs ≡ 0 → xs ≡ []
+no_item [] none = refl
+no_item (x ∷ xs) none = absurd (omega (arith, none))
+
+-- if the queue then held nothing, all that was put was taken
+pub none_left : (v : View) → Held 0 (PutAll v) → v.put ≡ items_of v.taken
+none_left v h = h.2.put ∙ (ap (λ (l : List Queued). items_of v.taken ++ items_of l) (no_item h.0 h.1) ∙ append-nil (items_of v.taken))
 
 -- the operator's items in the queue are the last that it put
 pub ends_in : (pass : ℕ) (v : View) → v.puts ≡ true → Learns OneQueue pass v (EndsIn v)

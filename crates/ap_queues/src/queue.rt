@@ -1,6 +1,6 @@
 //! A queue and its handles.
 
-ghost use Rattle.std.specs.Prelude.{◌≡◌, ◌+◌, ◌<◌, ◌≤◌, ◌++◌, ◌∷◌, [], true, IfOk, IfErr, OnOk, OnErr, IfSome, IfNone};
+ghost use Rattle.std.specs.Prelude.{◌≡◌, ◌+◌, ◌<◌, ◌≤◌, ◌++◌, ◌∷◌, [], true, IfOk, IfErr, OnOk, OnErr, IfSome, IfNone, IsTrue};
 ghost use Rattle.crossbeam_queue.specs.Passes.{view, ruled_capacity};
 
 use crate::item::{Item, Queued, View};
@@ -57,8 +57,9 @@ pub struct QueueFull {
 }
 
 impl EventQueue {
-    ghost use Rattle.std.specs.Prelude.{◌≡◌, ◌+◌, ◌<◌, ◌≤◌, ◌++◌, ◌∷◌, [], IfOk, IfErr, OnOk, OnErr, IfSome, IfNone, MatchOption};
+    ghost use Rattle.std.specs.Prelude.{◌≡◌, ◌+◌, ◌<◌, ◌≤◌, ◌++◌, ◌∷◌, [], IfOk, IfErr, OnOk, OnErr, IfSome, IfNone, IsTrue, MatchOption};
     ghost use Rattle.ap_queues.specs.Passes.{IsMakerOf, IsOperatorOf, IsWorkerOf, number_of, put_by, taken_by, WasFull, AreTaken, AreAllTaken};
+    ghost use Rattle.ap_queues.specs.Queues.{items_of};
 
     /// An empty queue, the maker of its operators, and the handle of its worker.
     pub fn open(alloc: Global) -> Result<(EventQueue, PassMaker, WorkerPass), AllocError>
@@ -160,13 +161,14 @@ impl EventQueue {
     }
 
     /// As `meet`, for the only operator that the queue has: it put all that was taken, which is a prefix
-    /// of what it put, in its order, once each. Does nothing at run time.
+    /// of what it put, in its order, once each. Returns whether the queue is empty: then all that it put
+    /// was taken.
     pub fn meet_alone(
         &self,
         worker: &mut WorkerPass,
         operator: &mut OperatorPass,
         maker: &mut PassMaker,
-    )
+    ) -> bool
         requires worker { IsWorkerOf self.now worker.old }
         requires operator { IsOperatorOf self.now operator.old }
         requires maker { IsMakerOf self.now maker.old }
@@ -179,6 +181,7 @@ impl EventQueue {
         ensures put { put_by operator.new ≡ put_by operator.old }
         ensures made { maker.new.made ≡ maker.old.made }
         ensures order { AreAllTaken operator.old worker.old }
+        ensures whole { IsTrue result → put_by operator.old ≡ items_of (taken_by worker.old) }
     {
         let mine = &mut worker.pass;
         let spare = self.queue.another::<Sparing>(mine);
@@ -190,8 +193,10 @@ impl EventQueue {
         let makers = mem::replace(source, spare_maker);
         self.queue.absorb::<Gathering>(mine, makers);
         self.queue.learn_as::<Alone>(mine);
+        let is_empty = self.queue.is_empty_as::<Alone>(mine);
         *source = self.queue.another::<Releasing>(mine);
         *pass = self.queue.another::<Parting>(mine);
+        is_empty
     }
 }
 

@@ -102,6 +102,7 @@ fn a_set_that_is_held_stays(rt: HostRuntime) {
     let wanted = [None, None, Some(0)];
     let reader = shows(&rt, &mut publisher, &sets, held.leave(), wanted);
     publisher.beginning_law(&reader);
+    same(&rt, publisher.count(), 2, "loads");
     publisher.close(&rt);
 }
 

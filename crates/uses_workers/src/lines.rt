@@ -145,7 +145,8 @@ fn a_lone_operator_meets_a_worker(rt: HostRuntime) {
     let is_put = put_frames(&rt, rt.alloc(), &lines, &mut operator, 3);
     holds(&rt, is_put, "three frames");
     holds(&rt, has(&rt, lines.queue(1), &mut odd, 3), "the frames");
-    lines.meet_alone(1, &mut odd, &mut operator, &mut left);
+    let is_empty = lines.meet_alone(1, &mut odd, &mut operator, &mut left);
+    holds(&rt, is_empty, "an empty queue");
     let is_put = put_frames(&rt, rt.alloc(), &lines, &mut operator, 2);
     holds(&rt, is_put, "two more");
     holds(&rt, has(&rt, lines.queue(1), &mut odd, 2), "and no other");

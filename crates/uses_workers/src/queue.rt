@@ -191,10 +191,13 @@ fn a_lone_operator_put_all_that_was_taken(rt: HostRuntime) {
     put(&rt, &queue, &mut only, 5);
     put(&rt, &queue, &mut only, 3);
     take(&rt, &queue, &mut worker, 0, 5);
-    queue.meet_alone(&mut worker, &mut only, &mut maker);
+    let is_empty = queue.meet_alone(&mut worker, &mut only, &mut maker);
+    holds(&rt, !is_empty, "one is left");
     put(&rt, &queue, &mut only, 9);
     take(&rt, &queue, &mut worker, 0, 3);
     take(&rt, &queue, &mut worker, 0, 9);
+    let is_empty = queue.meet_alone(&mut worker, &mut only, &mut maker);
+    holds(&rt, is_empty, "none is left");
 }
 
 #[test]

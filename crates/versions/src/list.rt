@@ -216,6 +216,13 @@ impl Known {
         self.count <= MOST
     }
 
+    /// How many loads it has.
+    pub fn loads(&self) -> u64
+        ensures { result ≡ length self.now.loads }
+    {
+        self.count - 1
+    }
+
     /// Each load fits the map shapes of its list.
     pub fn fitting(&self)
         ensures { All (Fits self.now.shapes) self.now.loads }

@@ -1,6 +1,6 @@
 //! The publisher.
 
-ghost use Rattle.std.specs.Prelude.{◌≡◌, ◌++◌, ◌∷◌, ◌↔◌, [], List, IsTrue, IsFalse, IsErrOf, IfSome, OnOk, OnErr};
+ghost use Rattle.std.specs.Prelude.{◌≡◌, ◌++◌, ◌∷◌, ◌↔◌, [], List, length, IsTrue, IsFalse, IsErrOf, IfSome, OnOk, OnErr};
 ghost use Rattle.std.specs.Arc.{arc_value};
 ghost use Rattle.versions.specs.declared.fault.PublishFault.TheVariants.{OtherShapes};
 ghost use Rattle.versions.specs.Desks.{IsTied, Shows, pending};
@@ -127,6 +127,13 @@ impl Publisher {
             known,
             shapes,
         }
+    }
+
+    /// How many loads were published.
+    pub fn count(&self) -> u64
+        ensures is { result ≡ length self.now.loads }
+    {
+        self.known.loads()
     }
 
     /// The loads so far, for a reader to learn.

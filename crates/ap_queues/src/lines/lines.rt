@@ -1,9 +1,10 @@
 //! The queues of all workers.
 
-ghost use Rattle.std.specs.Prelude.{◌≡◌, ◌<◌, [], length, slice_get, Some, IfOk, OnOk};
+ghost use Rattle.std.specs.Prelude.{◌≡◌, ◌<◌, [], length, slice_get, slice_index_or, Some, IfOk, IsTrue, OnOk};
 ghost use Rattle.ap_queues.specs.Passes.{IsWorkerOf, taken_by};
 ghost use Rattle.ap_queues.specs.declared.queue.EventQueue.{EventQueue};
 ghost use Rattle.ap_queues.specs.Lines.{ArePassesOf, AreLinesOf, AreTakenAt, AreAllTakenAt, HasPutNothing, HaveMade, MakesNoMore, MakesOneMore, numbers_of, puts_of};
+ghost use Rattle.ap_queues.specs.Queues.{items_of};
 
 use crate::lines::fault::{LineFault, Unserved};
 use crate::lines::passes::{LinePasses, OperatorLines};
@@ -129,14 +130,15 @@ impl EventLines {
     }
 
     /// As `meet`, for the only operator that the queues have: it put all that the worker took, which is a
-    /// prefix of what it put into the worker's queue, in order, once each. Does nothing at run time.
+    /// prefix of what it put into the worker's queue, in order, once each. Returns whether that queue is
+    /// empty: then the worker took all that was put.
     pub fn meet_alone(
         &self,
         number: usize,
         worker: &mut WorkerPass,
         operator: &mut OperatorLines,
         left: &mut LinePasses,
-    )
+    ) -> bool
         requires there { number < length self.now }
         requires worker { (q : EventQueue) → slice_get self.now number ≡ Some q →
             IsWorkerOf q worker.old }
@@ -152,8 +154,10 @@ impl EventLines {
         ensures put { puts_of operator.new ≡ puts_of operator.old }
         ensures made { HaveMade 1 left.new }
         ensures order { AreAllTakenAt number operator.old worker.old }
+        ensures whole { IsTrue result →
+            slice_index_or (puts_of operator.old) number [] ≡ items_of (taken_by worker.old) }
     {
         let maker = &mut left.makers[number];
-        self.queues[number].meet_alone(worker, &mut operator.passes[number], maker);
+        self.queues[number].meet_alone(worker, &mut operator.passes[number], maker)
     }
 }
