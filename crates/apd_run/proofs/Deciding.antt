@@ -1,5 +1,5 @@
 -- What became of a worker's events, and the histories of the shards.
-use Rattle.std.proofs.Common.{◌≡◌, ◌+◌, ◌<◌, ℕ, Bool, true, false, List, [], ◌∷◌, ◌++◌, length, map, refl, sym, ap, subst, ◌∙◌, append_assoc, append-nil}
+use Rattle.std.proofs.Common.{◌≡◌, ◌+◌, ◌<◌, ◌≤◌, ℕ, Bool, true, false, List, [], ◌∷◌, ◌++◌, get_or, length, map, refl, sym, ap, subst, ◌∙◌, append_assoc, append-nil, arith}
 use Rattle.std.specs.Prelude.{◌==◌, slice_index_or}
 use Rattle.std.specs.List.{All}
 use Rattle.std.proofs.lemmas.List.{length-append, length-map, map-append}
@@ -28,12 +28,14 @@ use Rattle.ap_live.proofs.Growing.{by_shard}
 use Rattle.ap_live.specs.Verdicts.{AreJudged}
 use Rattle.versions.specs.declared.list.Load.{Load}
 use Rattle.versions.specs.Sets.{set_of}
+use Rattle.versions.specs.Lists.{Beginning, Begins}
+use Rattle.versions.proofs.Beginnings.{prefix_length, prefix_self, prefix_trans}
 use Rattle.ap_queues.specs.Items.{Item}
-use Rattle.ap_queues.specs.Lines.{AreAllTakenAt, puts_of}
+use Rattle.ap_queues.specs.Lines.{puts_of}
 use Rattle.ap_queues.specs.declared.lines.passes.OperatorLines.{OperatorLines}
 use Rattle.ap_queues.specs.Passes.{taken_by}
 use Rattle.ap_queues.specs.Queues.{items_of}
-use Rattle.apd_run.specs.Deciding.{Accounts, AreOfQueue, Concerns, Deed, IsHistory, WasJudged, deed_of, deeds_at, histories_of, items_in, TookOf, with_deed}
+use Rattle.apd_run.specs.Deciding.{Accounts, AreOfQueue, Concerns, Deed, IsHistory, WasJudged, deed_of, deeds_at, histories_of, items_in, TookAllOf, with_deed}
 use Rattle.apd_run.proofs.Judging.{are_judged}
 
 -- ---- what is told of events, list by list
@@ -51,56 +53,74 @@ deeds_two s (t ∷ ts) ys =
 
 -- ---- what a worker served
 
--- the token has more entries of its own, which say this, with verdicts of accepted programs
-record Adds (t : Token) (deeds : List Deed) (u : Token) : Type 0 where
+-- these verdicts go by more loads, if more were published
+judged_more : (least : ℕ) (xs ys : List Load) → IsPrefix xs ys → (e : Entry) → WasJudged least xs e → WasJudged least ys e
+judged_more least xs ys p e j = record { loads = j.loads; first = prefix_trans j.loads xs ys j.first p; many = j.many; judged = j.judged }
+
+pub all_judged : (least : ℕ) (xs ys : List Load) → IsPrefix xs ys → (es : List Entry) → All (WasJudged least xs) es → All (WasJudged least ys) es
+all_judged least xs ys p es all k d low = judged_more least xs ys p (get_or es k d) (all k d low)
+
+-- the token has more entries of its own, which say this, with verdicts of programs in which the first of these loads result
+record Adds (least : ℕ) (published : List Load) (t : Token) (deeds : List Deed) (u : Token) : Type 0 where
   entries : List Entry
   own : u.own ≡ t.own ++ entries
   say : map deed_of entries ≡ deeds
-  judged : All WasJudged entries
+  judged : All (WasJudged least published) entries
 
-adds_none : (t u : Token) → u ≡ t → Adds t [] u
-adds_none t u is = record { entries = []; own = ap (λ (z : Token). z.own) is ∙ sym (append-nil t.own); say = refl; judged = All-nil WasJudged }
+adds_none : (least : ℕ) (published : List Load) (t u : Token) → u ≡ t → Adds least published t [] u
+adds_none least published t u is =
+    record { entries = []; own = ap (λ (z : Token). z.own) is ∙ sym (append-nil t.own); say = refl; judged = All-nil (WasJudged least published) }
 
 -- these verdicts are those of the programs in which the loads result
 abbrev Judges : (Readings → List (Ask × ℕ) → Type 0) → List Load → Type 0
 Judges V loads = (r : Readings) (asked : List (Ask × ℕ)) → V r asked → AreJudged (set_of loads) asked
 
-adds_one : (V : Readings → List (Ask × ℕ) → Type 0) (loads : List Load) → Judges V loads → (rs : Rules) (e : Event) (f : Fate) (here : Bool) (t u w : Token) (later : List Deed)
-    → ChangesIf here (λ t u. Comes V rs t e f u) t u → Adds u later w → Adds t (with_deed here e f later) w
-adds_one V loads judges rs e (Decided outs dropped) true t u w later c h =
+adds_one : (least : ℕ) (published : List Load) (V : Readings → List (Ask × ℕ) → Type 0) (loads : List Load) → Judges V loads → IsPrefix loads published → least ≤ length loads
+    → (rs : Rules) (e : Event) (f : Fate) (here : Bool) (t u w : Token) (later : List Deed)
+    → ChangesIf here (λ t u. Comes V rs t e f u) t u → Adds least published u later w → Adds least published t (with_deed here e f later) w
+adds_one least published V loads judges first many rs e (Decided outs dropped) true t u w later c h =
     let entry : Entry = entry_of e c.asked outs.items in
     record {
       entries = entry ∷ h.entries;
       own = h.own ∙ (ap (λ (l : List Entry). l ++ h.entries) c.own ∙ append_assoc t.own (entry ∷ []) h.entries);
       say = λ i. record { event = e; outs = outs.items; dropped = sym c.flag i } ∷ h.say i;
-      judged = All-cons WasJudged entry h.entries (record { loads = loads; judged = judges c.readings c.asked c.verdicts }) h.judged;
+      judged = All-cons (WasJudged least published) entry h.entries (record { loads = loads; first = first; many = many; judged = judges c.readings c.asked c.verdicts }) h.judged;
     }
-adds_one V loads judges rs e Refused true t u w later c h = subst (λ (z : Token). Adds z later w) c h
-adds_one V loads judges rs e NotHandled true t u w later c h = subst (λ (z : Token). Adds z later w) c h
-adds_one V loads judges rs e f false t u w later c h = subst (λ (z : Token). Adds z later w) c h
+adds_one least published V loads judges first many rs e Refused true t u w later c h = subst (λ (z : Token). Adds least published z later w) c h
+adds_one least published V loads judges first many rs e NotHandled true t u w later c h = subst (λ (z : Token). Adds least published z later w) c h
+adds_one least published V loads judges first many rs e f false t u w later c h = subst (λ (z : Token). Adds least published z later w) c h
 
 module _ (config : Config) (a : Live) (worker : ℕ) where
-  adds_all : (s : ℕ) → s < 8 → (p : Progress) (items : List Queued) (tags : List Tagged) (q : Progress) → ServesAll config a worker p items tags q
-      → Adds (token_at s p.shards) (deeds_at s tags) (token_at s q.shards)
-  adds_all s low p [] [] q is = adds_none (token_at s p.shards) (token_at s q.shards) (ap (λ (z : Progress). token_at s z.shards) is)
-  adds_all s low p (x ∷ xs) (t ∷ ts) q r =
+  -- the worker sees more and more loads
+  rises : (p : Progress) (items : List Queued) (tags : List Tagged) (q : Progress) → ServesAll config a worker p items tags q → IsPrefix p.seen.loads q.seen.loads
+  rises p [] [] q is = subst (λ (z : Progress). IsPrefix p.seen.loads z.seen.loads) (sym is) (prefix_self p.seen.loads)
+  rises p (x ∷ xs) (t ∷ ts) q r = prefix_trans p.seen.loads r.0.seen.loads q.seen.loads r.1.became.begins.has_all (rises r.0 xs ts q r.2)
+  rises p [] (t ∷ ts) q r = absurd r
+  rises p (x ∷ xs) [] q r = absurd r
+
+  adds_all : (least s : ℕ) → s < 8 → (p : Progress) (items : List Queued) (tags : List Tagged) (q : Progress) → least ≤ length p.seen.loads → ServesAll config a worker p items tags q
+      → Adds least q.seen.loads (token_at s p.shards) (deeds_at s tags) (token_at s q.shards)
+  adds_all least s low p [] [] q told is = adds_none least q.seen.loads (token_at s p.shards) (token_at s q.shards) (ap (λ (z : Progress). token_at s z.shards) is)
+  adds_all least s low p (x ∷ xs) (t ∷ ts) q told r =
       let m : Progress = r.0 in
       let b = r.1.became in
       let V : Readings → List (Ask × ℕ) → Type 0 = JudgedBy a.stock.maps worker m.seen.loads p.held m.held in
       let judges : Judges V m.seen.loads = λ readings asked v. are_judged a worker readings.clock v.stations m.seen.loads p.held m.held asked v.verdicts in
       let e : Event = t.item.event in
-      by_shard (λ s. Adds (token_at s m.shards) (deeds_at s ts) (token_at s q.shards) → Adds (token_at s p.shards) (deeds_at s (t ∷ ts)) (token_at s q.shards))
-      (adds_one V m.seen.loads judges (rules t.item.shard config) e t.fate (t.item.shard == 0) p.shards.of0 m.shards.of0 q.shards.of0 (deeds_at 0 ts) b.came.of0)
-      (adds_one V m.seen.loads judges (rules t.item.shard config) e t.fate (t.item.shard == 1) p.shards.of1 m.shards.of1 q.shards.of1 (deeds_at 1 ts) b.came.of1)
-      (adds_one V m.seen.loads judges (rules t.item.shard config) e t.fate (t.item.shard == 2) p.shards.of2 m.shards.of2 q.shards.of2 (deeds_at 2 ts) b.came.of2)
-      (adds_one V m.seen.loads judges (rules t.item.shard config) e t.fate (t.item.shard == 3) p.shards.of3 m.shards.of3 q.shards.of3 (deeds_at 3 ts) b.came.of3)
-      (adds_one V m.seen.loads judges (rules t.item.shard config) e t.fate (t.item.shard == 4) p.shards.of4 m.shards.of4 q.shards.of4 (deeds_at 4 ts) b.came.of4)
-      (adds_one V m.seen.loads judges (rules t.item.shard config) e t.fate (t.item.shard == 5) p.shards.of5 m.shards.of5 q.shards.of5 (deeds_at 5 ts) b.came.of5)
-      (adds_one V m.seen.loads judges (rules t.item.shard config) e t.fate (t.item.shard == 6) p.shards.of6 m.shards.of6 q.shards.of6 (deeds_at 6 ts) b.came.of6)
-      (adds_one V m.seen.loads judges (rules t.item.shard config) e t.fate (t.item.shard == 7) p.shards.of7 m.shards.of7 q.shards.of7 (deeds_at 7 ts) b.came.of7)
-      s low (adds_all s low m xs ts q r.2)
-  adds_all s low p [] (t ∷ ts) q r = absurd r
-  adds_all s low p (x ∷ xs) [] q r = absurd r
+      let first : IsPrefix m.seen.loads q.seen.loads = rises m xs ts q r.2 in
+      let many : least ≤ length m.seen.loads = omega (arith, told, prefix_length p.seen.loads m.seen.loads b.begins.has_all) in
+      by_shard (λ s. Adds least q.seen.loads (token_at s m.shards) (deeds_at s ts) (token_at s q.shards) → Adds least q.seen.loads (token_at s p.shards) (deeds_at s (t ∷ ts)) (token_at s q.shards))
+      (adds_one least q.seen.loads V m.seen.loads judges first many (rules t.item.shard config) e t.fate (t.item.shard == 0) p.shards.of0 m.shards.of0 q.shards.of0 (deeds_at 0 ts) b.came.of0)
+      (adds_one least q.seen.loads V m.seen.loads judges first many (rules t.item.shard config) e t.fate (t.item.shard == 1) p.shards.of1 m.shards.of1 q.shards.of1 (deeds_at 1 ts) b.came.of1)
+      (adds_one least q.seen.loads V m.seen.loads judges first many (rules t.item.shard config) e t.fate (t.item.shard == 2) p.shards.of2 m.shards.of2 q.shards.of2 (deeds_at 2 ts) b.came.of2)
+      (adds_one least q.seen.loads V m.seen.loads judges first many (rules t.item.shard config) e t.fate (t.item.shard == 3) p.shards.of3 m.shards.of3 q.shards.of3 (deeds_at 3 ts) b.came.of3)
+      (adds_one least q.seen.loads V m.seen.loads judges first many (rules t.item.shard config) e t.fate (t.item.shard == 4) p.shards.of4 m.shards.of4 q.shards.of4 (deeds_at 4 ts) b.came.of4)
+      (adds_one least q.seen.loads V m.seen.loads judges first many (rules t.item.shard config) e t.fate (t.item.shard == 5) p.shards.of5 m.shards.of5 q.shards.of5 (deeds_at 5 ts) b.came.of5)
+      (adds_one least q.seen.loads V m.seen.loads judges first many (rules t.item.shard config) e t.fate (t.item.shard == 6) p.shards.of6 m.shards.of6 q.shards.of6 (deeds_at 6 ts) b.came.of6)
+      (adds_one least q.seen.loads V m.seen.loads judges first many (rules t.item.shard config) e t.fate (t.item.shard == 7) p.shards.of7 m.shards.of7 q.shards.of7 (deeds_at 7 ts) b.came.of7)
+      s low (adds_all least s low m xs ts q many r.2)
+  adds_all least s low p [] (t ∷ ts) q told r = absurd r
+  adds_all least s low p (x ∷ xs) [] q told r = absurd r
 
   same_items : (p : Progress) (items : List Queued) (tags : List Tagged) (q : Progress) → ServesAll config a worker p items tags q → items_in tags ≡ items_of items
   same_items p [] [] q is = refl
@@ -114,9 +134,13 @@ module _ (config : Config) (a : Live) (worker : ℕ) where
   all_concern p [] (t ∷ ts) q r = absurd r
   all_concern p (x ∷ xs) [] q r = absurd r
 
+-- a worker that served has seen more loads, or as many
+pub saw_more : (config : Config) (a : Live) (w w2 : Worker) (l l2 : List Tagged) → Served config a w w2 l l2 → IsPrefix w.seen.loads w2.seen.loads
+saw_more config a w w2 l l2 s = rises config a w.number (progress_of w) s.items s.tags (progress_of w2) s.served
+
 -- a worker that served more
-pub accounts_more : (config : Config) (a : Live) (w w2 : Worker) (l l2 : List Tagged) → Served config a w w2 l l2 → (given : ℕ) → Accounts given w l → Accounts given w2 l2
-accounts_more config a w w2 l l2 s given h =
+pub accounts_more : (config : Config) (a : Live) (w w2 : Worker) (l l2 : List Tagged) → Served config a w w2 l l2 → (given told : ℕ) → told ≤ length w.seen.loads → Accounts given told w l → Accounts given told w2 l2
+accounts_more config a w w2 l l2 s given told learned h =
     let more : All Concerns s.tags = all_concern config a w.number (progress_of w) s.items s.tags (progress_of w2) s.served in
     let items : items_in s.tags ≡ items_of s.items = same_items config a w.number (progress_of w) s.items s.tags (progress_of w2) s.served in
     record {
@@ -126,79 +150,90 @@ accounts_more config a w w2 l l2 s given h =
       taken = s.took ∙ (ap (λ (x : List Queued). x ++ s.items) h.taken ∙ append_assoc h.before h.items s.items);
       same = ap items_in s.listed
           ∙ (map-append (λ (t : Tagged). t.item) l s.tags ∙ ((λ i. h.same i ++ items i) ∙ sym (map-append (λ (x : Queued). x.item) h.items s.items)));
-      told = All-same Concerns l2 (l ++ s.tags) s.listed (All-append Concerns l s.tags h.told more);
+      concern = All-same Concerns l2 (l ++ s.tags) s.listed (All-append Concerns l s.tags h.concern more);
       deeds = λ n low.
-          let d = adds_all config a w.number n low (progress_of w) s.items s.tags (progress_of w2) s.served in
+          let d = adds_all config a w.number told n low (progress_of w) s.items s.tags (progress_of w2) learned s.served in
           ap (map deed_of) d.own
           ∙ (map-append deed_of (token_at n w.shards).own d.entries
           ∙ ((λ i. h.deeds n low i ++ d.say i) ∙ (sym (deeds_two n l s.tags) ∙ ap (deeds_at n) (sym s.listed))));
       judged = λ n low.
-          let d = adds_all config a w.number n low (progress_of w) s.items s.tags (progress_of w2) s.served in
-          All-same WasJudged (token_at n w2.shards).own ((token_at n w.shards).own ++ d.entries) d.own
-          (All-append WasJudged (token_at n w.shards).own d.entries (h.judged n low) d.judged);
+          let d = adds_all config a w.number told n low (progress_of w) s.items s.tags (progress_of w2) learned s.served in
+          let was = all_judged told w.seen.loads w2.seen.loads (saw_more config a w w2 l l2 s) (token_at n w.shards).own (h.judged n low) in
+          All-same (WasJudged told w2.seen.loads) (token_at n w2.shards).own ((token_at n w.shards).own ++ d.entries) d.own
+          (All-append (WasJudged told w2.seen.loads) (token_at n w.shards).own d.entries was d.judged);
     }
 
 -- a worker without entries of its own, and without events, which took this many items
-pub accounts_none : (given : ℕ) (w : Worker) (l : List Tagged) → length (taken_by w.pass) ≡ given → l ≡ [] → ((s : ℕ) → s < 8 → (token_at s w.shards).own ≡ []) → Accounts given w l
-accounts_none given w l many empty none =
+pub accounts_none : (given told : ℕ) (w : Worker) (l : List Tagged) → length (taken_by w.pass) ≡ given → l ≡ [] → ((s : ℕ) → s < 8 → (token_at s w.shards).own ≡ []) → Accounts given told w l
+accounts_none given told w l many empty none =
     record {
       before = taken_by w.pass;
       first = many;
       items = [];
       taken = sym (append-nil (taken_by w.pass));
       same = ap items_in empty;
-      told = All-same Concerns l [] empty (All-nil Concerns);
+      concern = All-same Concerns l [] empty (All-nil Concerns);
       deeds = λ s low. ap (map deed_of) (none s low) ∙ ap (deeds_at s) (sym empty);
-      judged = λ s low. All-same WasJudged (token_at s w.shards).own [] (none s low) (All-nil WasJudged);
+      judged = λ s low. All-same (WasJudged told w.seen.loads) (token_at s w.shards).own [] (none s low) (All-nil (WasJudged told w.seen.loads));
     }
 
--- a worker that took nothing more, with the same entries of its own
-pub accounts_same : (given : ℕ) (w w2 : Worker) (l : List Tagged) → taken_by w2.pass ≡ taken_by w.pass → ((s : ℕ) → s < 8 → (token_at s w2.shards).own ≡ (token_at s w.shards).own) → Accounts given w l → Accounts given w2 l
-accounts_same given w w2 l taken same h =
+-- a worker that took nothing more, has seen the same loads, and has the same entries of its own
+pub accounts_same : (given told : ℕ) (w w2 : Worker) (l : List Tagged) → taken_by w2.pass ≡ taken_by w.pass → w2.seen ≡ w.seen → ((s : ℕ) → s < 8 → (token_at s w2.shards).own ≡ (token_at s w.shards).own)
+    → Accounts given told w l → Accounts given told w2 l
+accounts_same given told w w2 l taken saw same h =
     record {
       before = h.before;
       first = h.first;
       items = h.items;
       taken = taken ∙ h.taken;
       same = h.same;
-      told = h.told;
+      concern = h.concern;
       deeds = λ s low. ap (map deed_of) (same s low) ∙ h.deeds s low;
-      judged = λ s low. All-same WasJudged (token_at s w2.shards).own (token_at s w.shards).own (same s low) (h.judged s low);
+      judged = λ s low.
+          subst (λ (b : Beginning). All (WasJudged told b.loads) (token_at s w2.shards).own) (sym saw)
+          (All-same (WasJudged told w.seen.loads) (token_at s w2.shards).own (token_at s w.shards).own (same s low) (h.judged s low));
     }
 
 -- how many items the worker took in all
-pub taken_length : (given : ℕ) (w : Worker) (l : List Tagged) → Accounts given w l → length (taken_by w.pass) ≡ given + length l
-taken_length given w l h =
+pub taken_length : (given told : ℕ) (w : Worker) (l : List Tagged) → Accounts given told w l → length (taken_by w.pass) ≡ given + length l
+taken_length given told w l h =
     let many : length l ≡ length h.items = sym (length-map l (λ (t : Tagged). t.item)) ∙ (ap length h.same ∙ length-map h.items (λ (x : Queued). x.item)) in
     ap length h.taken ∙ (length-append h.before h.items ∙ (λ i. h.first i + sym many i))
 
--- events of a worker that took only what was put
-pub of_queue : (puts : List (List Item)) (counts : List ℕ) (given worker : ℕ) (w : Worker) (l : List Tagged) → worker ≡ w.number → worker < length counts → slice_index_or counts worker 0 ≡ given
-    → TookOf puts w → Accounts given w l → AreOfQueue worker puts counts l
-of_queue puts counts given worker w l number below agrees t h =
+-- without events, no entry is the worker's own
+no_deed : (es : List Entry) → map deed_of es ≡ [] → es ≡ []
+no_deed [] is = refl
+no_deed (e ∷ es) is = absurd (cc is)
+
+pub accounts_empty : (given told : ℕ) (w : Worker) (l : List Tagged) → l ≡ [] → Accounts given told w l → (s : ℕ) → s < 8 → (token_at s w.shards).own ≡ []
+accounts_empty given told w l empty h s low = no_deed (token_at s w.shards).own (h.deeds s low ∙ ap (deeds_at s) empty)
+
+-- events of a worker that took all that was put
+pub of_queue : (puts : List (List Item)) (counts : List ℕ) (given told worker : ℕ) (w : Worker) (l : List Tagged) → worker ≡ w.number → worker < length counts → slice_index_or counts worker 0 ≡ given
+    → TookAllOf puts w → Accounts given told w l → AreOfQueue worker puts counts l
+of_queue puts counts given told worker w l number below agrees t h =
     let both : items_of (taken_by w.pass) ≡ items_of h.before ++ items_in l =
     ap items_of h.taken ∙ (map-append (λ (x : Queued). x.item) h.before h.items ∙ ap (λ (x : List Item). items_of h.before ++ x) (sym h.same)) in
     record {
       below = below;
       before = items_of h.before;
       first = length-map h.before (λ (x : Queued). x.item) ∙ (h.first ∙ sym agrees);
-      rest = t.rest;
-      put = ap (λ (k : ℕ). slice_index_or puts k []) number ∙ t.put ∙ (ap (λ (x : List Item). x ++ t.rest) both ∙ append_assoc (items_of h.before) (items_in l) t.rest);
+      put = ap (λ (k : ℕ). slice_index_or puts k []) number ∙ (t.put ∙ both);
     }
 
 -- the same worker with other tokens of the shards
-took_same : (puts : List (List Item)) (w : Worker) (e : Eight) → TookOf puts w → TookOf puts (record w { shards = e })
-took_same puts w e t = record { rest = t.rest; put = t.put }
+took_same : (puts : List (List Item)) (w : Worker) (e : Eight) → TookAllOf puts w → TookAllOf puts (record w { shards = e })
+took_same puts w e t = record { put = t.put }
 
-pub took_still : (puts : List (List Item)) (w w2 : Worker) → w2 ≡ record w { shards = w2.shards } → TookOf puts w → TookOf puts w2
-took_still puts w w2 same t = subst (λ (x : Worker). TookOf puts x) (sym same) (took_same puts w w2.shards t)
+pub took_still : (puts : List (List Item)) (w w2 : Worker) → w2 ≡ record w { shards = w2.shards } → TookAllOf puts w → TookAllOf puts w2
+took_still puts w w2 same t = subst (λ (x : Worker). TookAllOf puts x) (sym same) (took_same puts w w2.shards t)
 
--- a worker that met the only operator
-pub took_alone : (lines lines2 : OperatorLines) (w w2 : Worker) → puts_of lines2 ≡ puts_of lines → w2 ≡ record w { pass = w2.pass } → taken_by w2.pass ≡ taken_by w.pass → AreAllTakenAt w.number lines w.pass
-    → TookOf (puts_of lines2) w2
-took_alone lines lines2 w w2 puts same taken a =
+-- a worker that met the only operator, and left nothing
+pub took_alone : (lines lines2 : OperatorLines) (w w2 : Worker) → puts_of lines2 ≡ puts_of lines → w2 ≡ record w { pass = w2.pass } → taken_by w2.pass ≡ taken_by w.pass
+    → slice_index_or (puts_of lines) w.number [] ≡ items_of (taken_by w.pass) → TookAllOf (puts_of lines2) w2
+took_alone lines lines2 w w2 puts same taken whole =
     let number : w2.number ≡ w.number = ap (λ (x : Worker). x.number) same in
-    record { rest = a.rest; put = (λ i. slice_index_or (puts i) (number i) []) ∙ (a.put ∙ ap (λ (x : List Queued). items_of x ++ a.rest) (sym taken)) }
+    record { put = (λ i. slice_index_or (puts i) (number i) []) ∙ (whole ∙ ap items_of (sym taken)) }
 
 -- ---- entries of one's own
 

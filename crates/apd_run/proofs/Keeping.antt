@@ -1,5 +1,5 @@
 -- What changes of tokens and of loads preserve.
-use Rattle.std.proofs.Common.{◌≡◌, ◌+◌, ◌<◌, ℕ, List, [], length, sym, ap, subst, ◌∙◌}
+use Rattle.std.proofs.Common.{◌≡◌, ◌+◌, ◌<◌, ◌≤◌, ℕ, List, [], length, sym, ap, subst, ◌∙◌, arith, add-zero}
 use Rattle.ap_model.specs.Readings.{Config}
 use Rattle.ap_books.specs.Counts.{none}
 use Rattle.ap_books.specs.Holdings.{Holding, HasParts, sum_of}
@@ -12,13 +12,14 @@ use Rattle.ap_live.specs.Tokens.{Operator, IsOperator, Worker, IsWorker}
 use Rattle.ap_live.specs.Upholding.{token_at}
 use Rattle.ap_live.specs.declared.tagged.Tagged.{Tagged}
 use Rattle.versions.specs.Lists.{Beginning}
+use Rattle.versions.proofs.Beginnings.{prefix_length}
 use Rattle.hook_judge.specs.Sums.{no_counts}
 use Rattle.apd_run.specs.InForce.{AreInForce}
 use Rattle.apd_run.specs.declared.access.program_counts.ProgramCounts.{ProgramCounts}
 use Rattle.ap_queues.specs.declared.lines.passes.LinePasses.{LinePasses}
 use Rattle.apd_run.specs.Dealing.{AreRest}
 use Rattle.apd_run.specs.Hands.{RunOperator, IsRunOperator, RunWorker, IsRunWorker}
-use Rattle.apd_run.proofs.Deciding.{accounts_more, accounts_none, accounts_same, kept_own, taken_length}
+use Rattle.apd_run.proofs.Deciding.{accounts_empty, accounts_more, accounts_none, accounts_same, kept_own, saw_more, taken_length}
 use Rattle.apd_run.proofs.Served.{more_counted, nothing_counted}
 use Rattle.apd_run.proofs.Sums.{keeps_parts}
 
@@ -42,9 +43,9 @@ other_token shares place o t own same h =
       in_force = h.in_force;
     }
 
--- an operator that took over what became of other numbers of items
-pub other_taken : {F : Type 0} → (shares : ℕ) (place : Live) (o : RunOperator F) (taken : List ℕ) → IsRunOperator shares place o → IsRunOperator shares place (record o { taken = taken })
-other_taken shares place o taken h =
+-- an operator that took over what became of other numbers of items, and told workers of other numbers of loads
+pub other_notes : {F : Type 0} → (shares : ℕ) (place : Live) (o : RunOperator F) (taken told : List ℕ) → IsRunOperator shares place o → IsRunOperator shares place (record o { taken = taken; told = told })
+other_notes shares place o taken told h =
     record {
       own = h.own;
       ap_is = h.ap_is;
@@ -96,19 +97,39 @@ other_parts place w t fresh handled given more same taken one nothing empty unow
       number_is = h.number_is ∙ sym (ap (λ (x : Worker). x.number) same);
       parts = subst (HasParts 1) (sym taken) one;
       counts = nothing_counted _ _ (ap sum_of taken ∙ nothing) empty;
-      accounts = accounts_none given t handled (ap (λ (x : Worker). length (taken_by x.pass)) same ∙ (taken_length w.given w.token w.handled h.accounts ∙ sym more)) empty unowned;
+      accounts = accounts_none given w.told t handled (ap (λ (x : Worker). length (taken_by x.pass)) same ∙ (taken_length w.given w.told w.token w.handled h.accounts ∙ sym more)) empty unowned;
+      learned = subst (λ (x : Worker). w.told ≤ length x.seen.loads) (sym same) h.learned;
     }
 
--- a worker whose token has the same parts of the ledgers, and took nothing more
-pub same_parts : (place : Live) (w : RunWorker) (t : Worker) → IsWorker w.ap t → t.number ≡ w.token.number → taken_by t.pass ≡ taken_by w.token.pass → t.shards ≡ w.token.shards → IsRunWorker place w → IsRunWorker place (record w { token = t })
-same_parts place w t own number taken same h =
+-- a worker whose token has the same parts of the ledgers, took nothing more, and has seen the same loads
+pub same_parts : (place : Live) (w : RunWorker) (t : Worker) → IsWorker w.ap t → t.number ≡ w.token.number → taken_by t.pass ≡ taken_by w.token.pass → t.seen ≡ w.token.seen → t.shards ≡ w.token.shards
+    → IsRunWorker place w → IsRunWorker place (record w { token = t })
+same_parts place w t own number taken saw same h =
     record {
       own = own;
       ap_is = h.ap_is;
       number_is = h.number_is ∙ sym number;
       parts = subst (λ (e : Eight). HasParts 1 (holding_of e)) (sym same) h.parts;
       counts = ap counted_by same ∙ h.counts;
-      accounts = accounts_same w.given w.token t w.handled taken (λ s low. ap (λ (e : Eight). (token_at s e).own) same) h.accounts;
+      accounts = accounts_same w.given w.told w.token t w.handled taken saw (λ s low. ap (λ (e : Eight). (token_at s e).own) same) h.accounts;
+      learned = subst (λ (b : Beginning). w.told ≤ length b.loads) (sym saw) h.learned;
+    }
+
+-- a worker without events that learned of all loads so far
+pub told_worker : (place : Live) (w : RunWorker) (t : Worker) (told : ℕ) → IsWorker w.ap t → t ≡ record w.token { seen = t.seen } → w.handled ≡ [] → told ≤ length t.seen.loads → IsRunWorker place w
+    → IsRunWorker place (record w { token = t; told = told })
+told_worker place w t told own same empty learned h =
+    let shards : t.shards ≡ w.token.shards = ap (λ (x : Worker). x.shards) same in
+    record {
+      own = own;
+      ap_is = h.ap_is;
+      number_is = h.number_is ∙ sym (ap (λ (x : Worker). x.number) same);
+      parts = subst (λ (e : Eight). HasParts 1 (holding_of e)) (sym shards) h.parts;
+      counts = ap counted_by shards ∙ h.counts;
+      accounts = accounts_none w.given told t w.handled
+          (ap (λ (x : Worker). length (taken_by x.pass)) same ∙ (taken_length w.given w.told w.token w.handled h.accounts ∙ ap (λ (l : List Tagged). w.given + length l) empty ∙ add-zero w.given)) empty
+          (λ s low. ap (λ (e : Eight). (token_at s e).own) shards ∙ accounts_empty w.given w.told w.token w.handled empty h.accounts s low);
+      learned = learned;
     }
 
 -- a worker that served
@@ -121,7 +142,8 @@ served_worker config place w t handled own number served h =
       number_is = h.number_is ∙ sym number;
       parts = keeps_parts 1 w.token.shards t.shards served.parts h.parts;
       counts = more_counted _ _ _ _ served.tags h.counts served.listed served.counted;
-      accounts = accounts_more config w.ap w.token t w.handled handled served w.given h.accounts;
+      accounts = accounts_more config w.ap w.token t w.handled handled served w.given w.told h.learned h.accounts;
+      learned = omega (arith, h.learned, prefix_length w.token.seen.loads t.seen.loads (saw_more config w.ap w.token t w.handled handled served));
     }
 
 -- ---- tokens that met
@@ -169,7 +191,8 @@ met_worker place w t same k h =
       number_is = h.number_is ∙ sym (ap (λ (x : Worker). x.number) same);
       parts = subst (HasParts 1) (sym (kept_holding w.token.shards t.shards k)) h.parts;
       counts = ap sum_of (kept_holding w.token.shards t.shards k) ∙ h.counts;
-      accounts = accounts_same w.given w.token t w.handled (ap (λ (x : Worker). taken_by x.pass) same) (kept_own w.token.shards t.shards k) h.accounts;
+      accounts = accounts_same w.given w.told w.token t w.handled (ap (λ (x : Worker). taken_by x.pass) same) (ap (λ (x : Worker). x.seen) same) (kept_own w.token.shards t.shards k) h.accounts;
+      learned = subst (λ (x : Worker). w.told ≤ length x.seen.loads) (sym same) h.learned;
     }
 
 -- an operator whose token met a worker at its queue

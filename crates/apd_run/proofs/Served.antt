@@ -1,5 +1,6 @@
 -- Reports on a worker's list.
 use Rattle.std.proofs.Common.{◌≡◌, ◌<◌, ℕ, List, [], ◌∷◌, ◌++◌, length, refl, sym, ap, subst, ◌∙◌, zero-add}
+use mathlib.Core.List.{IsPrefix}
 use Rattle.std.specs.Prelude.{true, false, None, slice_index_or}
 use Rattle.std.proofs.lemmas.List.Sums.{sum_by-append}
 use Rattle.ap_model.specs.declared.event.Event.{Event}
@@ -12,12 +13,15 @@ use Rattle.ap_live.specs.Upholding.{token_at}
 use Rattle.ap_live.specs.declared.tagged.Tagged.{Tagged}
 use Rattle.apd_driver.specs.Crews.{Collects, Crew, Works, gains, with_work}
 use Rattle.apd_driver.specs.Following.{FromNone, FromOneMore, TakesAll}
-use Rattle.apd_run.specs.Deciding.{Accounts, TookOf}
+use Rattle.std.specs.List.{All}
+use Rattle.versions.specs.Lists.{Beginning}
+use Rattle.apd_run.specs.Deciding.{Accounts, TookAllOf, WasJudged}
+use Rattle.apd_run.specs.Hands.{claims, tells}
 use Rattle.apd_run.specs.Reports.{Handled, Memory, Report}
 use Rattle.apd_driver.specs.Tallies.{report_counts, tallied, told_counts}
 use Rattle.apd_run.specs.Telling.{dropped_in, report_if, reports_in, reports_of, told_of}
-use Rattle.apd_run.specs.Work.{Meets, Takes, Work, live, with_histories, with_taken}
-use Rattle.apd_run.proofs.Deciding.{of_queue}
+use Rattle.apd_run.specs.Work.{Meets, Takes, Work, live, with_histories, with_taken, with_told}
+use Rattle.apd_run.proofs.Deciding.{all_judged, of_queue}
 use Rattle.apd_run.proofs.Sums.{none_plus, plus_three}
 
 -- ---- what reports count
@@ -58,24 +62,31 @@ told_counted (t ∷ ts) =
     tallied_two (reports_of t) (reports_in ts)
     ∙ (ap (λ (c : Counts). plus c (tallied (reports_in ts))) (report_counted t.item.call t.item.shard t.item.event t.fate) ∙ ap (λ (c : Counts). plus (fate_counts t.fate) c) (told_counted ts))
 
--- a worker was met, its events were claimed, and the reports on its list were appended
-pub collects_met : (crew mid crew2 : Crew live) (list list2 : List Report) (given worker : ℕ) (w : Worker) (tags : List Tagged) → worker ≡ w.number → TookOf crew.work.puts w → Works crew mid → Meets crew.work mid.work w
-    → worker < length mid.work.taken → slice_index_or mid.work.taken worker 0 ≡ given → Accounts given w tags → crew2 ≡ gains (with_work mid (with_taken mid.work worker (length tags))) (tally tags)
-    → list2 ≡ list ++ reports_in tags → Collects crew crew2 list list2
-collects_met crew mid crew2 list list2 given worker w tags number took works m below agrees h counted listed =
-    let last : Work = with_taken mid.work worker (length tags) in
+-- a worker was met, its events were claimed, it was told of the loads, and the reports on its list were appended
+pub collects_met : (crew mid crew2 : Crew live) (list list2 : List Report) (given told worker : ℕ) (w : Worker) (tags : List Tagged) → worker ≡ w.number → TookAllOf crew.work.puts w → Works crew mid → Meets crew.work mid.work w
+    → IsPrefix w.seen.loads mid.work.loads.loads → worker < length mid.work.taken → slice_index_or mid.work.taken worker 0 ≡ given → slice_index_or mid.work.told worker 0 ≡ told → Accounts given told w tags
+    → crew2 ≡ gains (with_work mid (with_told (with_taken mid.work worker (length tags)) worker)) (tally tags) → list2 ≡ list ++ reports_in tags → Collects crew crew2 list list2
+collects_met crew mid crew2 list list2 given told worker w tags number took works m seen_loads below agrees knows h counted listed =
+    let last : Work = with_told (with_taken mid.work worker (length tags)) worker in
     let same : crew2.work ≡ last = ap (λ (c : Crew live). c.work) counted in
     let seen : mid.work ≡ with_histories crew.work mid.work.histories = m.sees.others in
     let kept : mid.work.taken ≡ crew.work.taken = ap (λ (x : Work). x.taken) seen in
+    let loads : mid.work.loads ≡ crew.work.loads = ap (λ (x : Work). x.loads) seen in
+    let least : told ≡ slice_index_or crew.work.told worker 0 = sym knows ∙ ap (λ (x : Work). slice_index_or x.told worker 0) seen in
+    let judged : (s : ℕ) → s < 8 → All (WasJudged (slice_index_or crew.work.told worker 0) crew.work.loads.loads) (token_at s w.shards).own =
+    λ s low.
+    subst (λ (n : ℕ). All (WasJudged n crew.work.loads.loads) (token_at s w.shards).own) least
+    (subst (λ (b : Beginning). All (WasJudged told b.loads) (token_at s w.shards).own) loads
+    (all_judged told w.seen.loads mid.work.loads.loads seen_loads (token_at s w.shards).own (h.judged s low))) in
     let takes : Takes crew.work last (reports_in tags) = record {
       worker = worker;
       events = tags;
       told = refl;
-      queued = of_queue crew.work.puts crew.work.taken given worker w tags number (subst (λ (l : List ℕ). worker < length l) kept below) (ap (λ (l : List ℕ). slice_index_or l worker 0) (sym kept) ∙ agrees) took h;
-      concern = h.told;
-      decided = λ s low. record { entries = (token_at s w.shards).own; deeds = h.deeds s low; judged = h.judged s low; among = m.among s low };
+      queued = of_queue crew.work.puts crew.work.taken given told worker w tags number (subst (λ (l : List ℕ). worker < length l) kept below) (ap (λ (l : List ℕ). slice_index_or l worker 0) (sym kept) ∙ agrees) took h;
+      concern = h.concern;
+      decided = λ s low. record { entries = (token_at s w.shards).own; deeds = h.deeds s low; judged = judged s low; among = m.among s low };
       holds = m.holds;
-      sees = record { others = ap (λ (x : Work). with_taken x worker (length tags)) seen; go_on = m.sees.go_on };
+      sees = record { others = ap (λ (x : Work). with_told (with_taken x worker (length tags)) worker) seen; go_on = m.sees.go_on };
     } in
     record {
       reports = reports_in tags;
@@ -85,6 +96,18 @@ collects_met crew mid crew2 list list2 given worker w tags number took works m b
           ∙ (ap (λ (c : Crew live). gains (with_work c last) (tally tags)) works
           ∙ (ap (λ (x : Work). with_work (gains crew (tally tags)) x) (sym same) ∙ ap (λ (c : Counts). with_work (gains crew c) crew2.work) (sym (told_counted tags))));
     }
+
+-- a worker's events were claimed, and then it was told of the loads
+pub told_after : (mid seen after crew2 : Crew live) (worker number many : ℕ) (counts : Counts) → seen ≡ mid → after ≡ gains (claims seen worker many) counts → number ≡ worker → crew2 ≡ tells after number
+    → crew2 ≡ gains (with_work mid (with_told (with_taken mid.work worker many) worker)) counts
+told_after mid seen after crew2 worker number many counts same claimed is told =
+    told ∙ ((λ i. tells (claimed i) (is i)) ∙ ap (λ (c : Crew live). tells (gains (claims c worker many) counts) worker) same)
+
+-- of how many loads it had been told before
+pub knew_before : (mid seen after : Crew live) (worker number many : ℕ) (counts : Counts) (told was : ℕ) → seen ≡ mid → after ≡ gains (claims seen worker many) counts → number ≡ worker
+    → slice_index_or after.work.told number 0 ≡ told → told ≡ was → slice_index_or mid.work.told worker 0 ≡ was
+knew_before mid seen after worker number many counts told was same claimed is agrees kept =
+    (λ i. slice_index_or ((sym same i).work.told) (sym is i) 0) ∙ ((λ i. slice_index_or ((sym claimed i).work.told) number 0) ∙ (agrees ∙ kept))
 
 -- the same after nothing changed
 pub collects_after : (crew crew1 crew2 : Crew live) (list list2 : List Report) → crew1 ≡ crew → Collects crew1 crew2 list list2 → Collects crew crew2 list list2

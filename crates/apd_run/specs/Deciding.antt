@@ -1,6 +1,7 @@
 -- What became of a worker's events, as the shards' histories have it.
-use Rattle.std.specs.Prelude.{◌≡◌, ◌==◌, ◌<◌, ℕ, Bool, true, false, List, [], ◌∷◌, ◌++◌, length, map, slice_index_or}
+use Rattle.std.specs.Prelude.{◌≡◌, ◌==◌, ◌<◌, ◌≤◌, ℕ, Bool, true, false, List, [], ◌∷◌, ◌++◌, length, map, slice_index_or}
 use Rattle.std.specs.List.{All}
+use mathlib.Core.List.{IsPrefix}
 use Rattle.ap_model.specs.declared.event.Event.{Event}
 use Rattle.ap_model.specs.declared.event.Out.{Out}
 use Rattle.ap_model.specs.Drops.{drops}
@@ -48,49 +49,49 @@ deeds_at s (t ∷ ts) = with_deed (t.item.shard == s) t.item.event t.fate (deeds
 abbrev pub items_in : List Tagged → List Item
 items_in events = map (λ (t : Tagged). t.item) events
 
--- what the worker took is a prefix of what was put into its queue, if this was put into each worker's
-pub record TookOf (puts : List (List Item)) (w : Worker) : Type 0 where
-  pub rest : List Item
-  pub put : slice_index_or puts w.number [] ≡ items_of (taken_by w.pass) ++ rest
+-- the worker took all that was put into its queue, in order, if this was put into each worker's
+pub record TookAllOf (puts : List (List Item)) (w : Worker) : Type 0 where
+  pub put : slice_index_or puts w.number [] ≡ items_of (taken_by w.pass)
 
--- The events are of the next items that were put into this worker's queue, one after another, in this order, if these were
--- put into each worker's, and this many of each were taken over before.
+-- The events are of all items that were put into this worker's queue and not taken over before, in order, if these were put
+-- into each worker's, and this many of each were taken over before.
 pub record AreOfQueue (worker : ℕ) (puts : List (List Item)) (taken : List ℕ) (events : List Tagged) : Type 0 where
   pub below : worker < length taken
   pub before : List Item
   pub first : length before ≡ slice_index_or taken worker 0
-  pub rest : List Item
-  pub put : slice_index_or puts worker [] ≡ before ++ (items_in events ++ rest)
+  pub put : slice_index_or puts worker [] ≡ before ++ items_in events
 
 -- an event that concerns the shard at which it was handled
 abbrev pub Concerns : Tagged → Type 0
 Concerns t = IsTold t.item.event t.item.shard
 
--- each verdict in the entry is that of an accepted program, within its budget, or of the verdict tables if there is none: all
--- of one set of programs, in which these loads result
-pub record WasJudged (e : Entry) : Type 0 where
+-- Each verdict in the entry is that of an accepted program, within its budget, or of the verdict tables if there is none: all
+-- of one set of programs, in which the first of these loads result, at least this many of them.
+pub record WasJudged (least : ℕ) (published : List Load) (e : Entry) : Type 0 where
   pub loads : List Load
+  pub first : IsPrefix loads published
+  pub many : least ≤ length loads
   pub judged : AreJudged (set_of loads) e.asked
 
 -- The events are of the last items that the worker took, in order, after this many others, and each concerns its shard. What
 -- is told of those that were decided at a shard is, in order, what the token's own entries there say, whose verdicts are of
--- accepted programs.
-pub record Accounts (given : ℕ) (w : Worker) (events : List Tagged) : Type 0 where
+-- programs in which loads result that the worker has seen, at least as many as it had been told of.
+pub record Accounts (given told : ℕ) (w : Worker) (events : List Tagged) : Type 0 where
   pub before : List Queued
   pub first : length before ≡ given
   pub items : List Queued
   pub taken : taken_by w.pass ≡ before ++ items
   pub same : items_in events ≡ items_of items
-  pub told : All Concerns events
+  pub concern : All Concerns events
   pub deeds : (s : ℕ) → s < 8 → map deed_of (token_at s w.shards).own ≡ deeds_at s events
-  pub judged : (s : ℕ) → s < 8 → All WasJudged (token_at s w.shards).own
+  pub judged : (s : ℕ) → s < 8 → All (WasJudged told w.seen.loads) (token_at s w.shards).own
 
--- what is told of the events that were decided at this shard is, in order, what entries of this history say, each at a
--- position of its own; their verdicts are of accepted programs
-pub record AreEntries (s : ℕ) (events : List Tagged) (history : List Entry) : Type 0 where
+-- What is told of the events that were decided at this shard is, in order, what entries of this history say, each at a
+-- position of its own; their verdicts are of programs in which the first of these loads result, at least this many.
+pub record AreEntries (s least : ℕ) (published : List Load) (events : List Tagged) (history : List Entry) : Type 0 where
   pub entries : List Entry
   pub deeds : map deed_of entries ≡ deeds_at s events
-  pub judged : All WasJudged entries
+  pub judged : All (WasJudged least published) entries
   pub among : IsAmong entries history
 
 -- these entries are a run of the link at this shard from nobody on, under this configuration

@@ -1,5 +1,5 @@
 -- The operator and the workers of a run.
-use Rattle.std.specs.Prelude.{◌≡◌, ◌+◌, ◌<◌, ℕ, List}
+use Rattle.std.specs.Prelude.{◌≡◌, ◌+◌, ◌<◌, ◌≤◌, ℕ, List, length}
 use Rattle.ap_model.specs.Readings.{Config}
 use Rattle.ap_books.specs.Counts.{none}
 use Rattle.ap_books.specs.Holdings.{Holding, HasParts, sum_of}
@@ -21,33 +21,36 @@ use Rattle.apd_driver.specs.Crews.{Crew, with_work}
 use Rattle.apd_files.specs.Held.{Held}
 use Rattle.bpf_verifier.specs.declared.limit.Limits.{Limits}
 use Rattle.apd_run.specs.Deciding.{Accounts, histories_of}
-use Rattle.apd_run.specs.Work.{Work, live, with_taken}
+use Rattle.apd_run.specs.Work.{Work, live, with_taken, with_told}
 use Rattle.apd_run.specs.declared.access.program_counts.ProgramCounts.{ProgramCounts}
 
--- a worker's access point, number and token, how many items it had taken when the operator last took over its counts, and
--- what became of its events since then
+-- a worker's access point, number and token, how many items it had taken when the operator last took over its counts, of how
+-- many loads it was told then, and what became of its events since then
 pub record RunWorker : Type 0 where
   pub ap : Live
   pub number : ℕ
   pub given : ℕ
+  pub told : ℕ
   pub token : Worker
   pub handled : List Tagged
 
 -- Its token belongs to this access point, has its number, and has one part of each ledger, which has counted what the events
--- count. What is told of these events is what the token's own entries say; they are of the last items that it took.
+-- count. What is told of these events is what the token's own entries say; they are of the last items that it took. It has
+-- seen the loads of which it was told.
 pub record IsRunWorker (ap : Live) (w : RunWorker) : Type 0 where
   pub own : IsWorker w.ap w.token
   pub ap_is : w.ap ≡ ap
   pub number_is : w.number ≡ w.token.number
   pub parts : HasParts 1 (holding_of w.token.shards)
   pub counts : counted_by w.token.shards ≡ tally w.handled
-  pub accounts : Accounts w.given w.token w.handled
+  pub accounts : Accounts w.given w.told w.token w.handled
+  pub learned : w.told ≤ length w.token.seen.loads
 
 -- An operator's access point, the configuration of its link, and its token, the parts of the ledgers and the pages that it
 -- keeps and how many of each they are, the handles of the queues that are left, of how many items of each worker's queue it
--- took over what became of them, what these parts have counted, how many workers have one, what was published, what the
--- workers that came back have counted of the runs of the programs in force, the files of programs, and what the verifier or
--- a check may do for each program.
+-- took over what became of them, of how many loads it told each worker, what these parts have counted, how many workers have
+-- one, what was published, what the workers that came back have counted of the runs of the programs in force, the files of
+-- programs, and what the verifier or a check may do for each program.
 pub record RunOperator (F : Type 0) : Type 0 where
   pub ap : Live
   pub config : Config
@@ -57,6 +60,7 @@ pub record RunOperator (F : Type 0) : Type 0 where
   pub parts : ℕ
   pub passes : LinePasses
   pub taken : List ℕ
+  pub told : List ℕ
   pub totals : Totals
   pub workers : ℕ
   pub loads : Beginning
@@ -84,7 +88,7 @@ pub record IsRunOperator {F : Type 0} (shares : ℕ) (ap : Live) (o : RunOperato
 -- what an operator works with, where this is known of its files, and what it has done
 abbrev pub work_of : {F : Type 0} → (F → Held) → RunOperator F → Work
 work_of held o =
-    record { files = held o.files; limits = o.limits; config = o.config; maps = o.ap.stock.maps; seats = o.token.seats; puts = puts_of o.token.lines; taken = o.taken; histories = histories_of o.token.shards; loads = o.loads }
+    record { files = held o.files; limits = o.limits; config = o.config; maps = o.ap.stock.maps; seats = o.token.seats; puts = puts_of o.token.lines; taken = o.taken; told = o.told; histories = histories_of o.token.shards; loads = o.loads }
 
 -- how many workers have rights, what those that came back have counted, and what the operator has done
 abbrev pub crew_of : {F : Type 0} → (F → Held) → RunOperator F → Crew live
@@ -93,3 +97,7 @@ crew_of held o = record { workers = o.workers; counted = sum_of o.hoard; work = 
 -- what became of this many more items of a worker's queue was taken over
 abbrev pub claims : Crew live → ℕ → ℕ → Crew live
 claims crew worker many = with_work crew (with_taken crew.work worker many)
+
+-- a worker was told of all loads so far
+abbrev pub tells : Crew live → ℕ → Crew live
+tells crew worker = with_work crew (with_told crew.work worker)

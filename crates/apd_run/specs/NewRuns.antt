@@ -16,7 +16,7 @@ use Rattle.apd_run.specs.Work.{live}
 
 -- An operator that works with these files, as far as they are known, within these limits, under this configuration of the
 -- link. There is a worker. Nothing was counted or taken over yet, no queue of a worker got an event, and nothing is
--- published.
+-- published or was told.
 pub record IsNewCrew (files : Held) (limits : Limits) (config : Config) (c : Crew live) : Type 0 where
   pub some : 0 < c.workers
   pub nothing : c.counted ≡ none
@@ -25,6 +25,7 @@ pub record IsNewCrew (files : Held) (limits : Limits) (config : Config) (c : Cre
   pub config_is : c.work.config ≡ config
   pub unput : c.work.puts ≡ replicate c.workers []
   pub untaken : c.work.taken ≡ replicate 8 0
+  pub untold : c.work.told ≡ replicate 8 0
   pub no_loads : c.work.loads.loads ≡ []
 
 -- a run of these lines, if they are known, under this configuration of the link: it doesn't begin, and nothing is printed,

@@ -32,8 +32,8 @@ use Rattle.apd_run.specs.Words.{ReadsWord, StoresWord, SumsWord}
 
 -- what is known of the files of programs, what the verifier or a check may do for each program, the configuration of the
 -- link, the tables of all maps; what the operator's seat at each table knows of its history, what was put into the queue of
--- each worker, in order, of how many of these items it was taken over what became of them, what the operator knows of each
--- shard's history, and the loads that were published
+-- each worker, in order, of how many of these items it was taken over what became of them, of how many loads each worker was
+-- told then, what the operator knows of each shard's history, and the loads that were published
 pub record Work : Type 0 where
   pub files : Held
   pub limits : Limits
@@ -42,6 +42,7 @@ pub record Work : Type 0 where
   pub seats : List (List Place)
   pub puts : List (List Item)
   pub taken : List ℕ
+  pub told : List ℕ
   pub histories : ℕ → List Entry
   pub loads : Beginning
 
@@ -64,6 +65,10 @@ with_histories w histories = record w { histories = histories }
 -- the same after what became of this many more items of a worker's queue was taken over
 abbrev pub with_taken : Work → ℕ → ℕ → Work
 with_taken w worker many = record w { taken = slice_set w.taken worker (slice_index_or w.taken worker 0 + many) }
+
+-- the same after a worker was told of all loads so far
+abbrev pub with_told : Work → ℕ → Work
+with_told w worker = record w { told = slice_set w.told worker (length w.loads.loads) }
 
 -- What is done for a line that asks for no event, and what is told of it, if anything: a load, an adoption or an unload
 -- changes the published loads, a use of a word what the seats know, and nothing else.
@@ -89,19 +94,21 @@ pub record Meets (old new : Work) (w : Worker) : Type 0 where
   pub holds : (s : ℕ) → s < 8 → IsHistory s new.config (new.histories s)
   pub among : (s : ℕ) → s < 8 → IsAmong (token_at s w.shards).own (new.histories s)
 
--- What became of a worker's events was taken over, and is what these reports tell. The events are of the next items that the
--- operator put into that worker's queue, one after another, and each concerns its shard. What is told of those that were
--- decided at a shard is, in order, what entries of the shard's history say. Each history goes on with what the operator
--- knew of it before, and is a run of the link from nobody on, under the configuration.
+-- What became of a worker's events was taken over, and is what these reports tell. The events are of all items that the
+-- operator put into that worker's queue since it took over from it, in order, and each concerns its shard. What is told of
+-- those that were decided at a shard is, in order, what entries of the shard's history say. Their verdicts are of programs in
+-- which the first of the published loads result, at least those of which the worker had been told; then it was told of all.
+-- Each history goes on with what the operator knew of it before, and is a run of the link from nobody on, under the
+-- configuration.
 pub record Takes (old new : Work) (reports : List Report) : Type 0 where
   pub worker : ℕ
   pub events : List Tagged
   pub told : reports ≡ reports_in events
   pub queued : AreOfQueue worker old.puts old.taken events
   pub concern : All Concerns events
-  pub decided : (s : ℕ) → s < 8 → AreEntries s events (new.histories s)
+  pub decided : (s : ℕ) → s < 8 → AreEntries s (slice_index_or old.told worker 0) old.loads.loads events (new.histories s)
   pub holds : (s : ℕ) → s < 8 → IsHistory s new.config (new.histories s)
-  pub sees : Sees (with_taken old worker (length events)) new
+  pub sees : Sees (with_told (with_taken old worker (length events)) worker) new
 
 -- what is said of an operator of a live access point
 abbrev pub live : Semantics

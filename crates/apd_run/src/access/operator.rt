@@ -1,14 +1,15 @@
 //! The operator of a run.
 
-ghost use Rattle.std.specs.Prelude.{◌≡◌, ◌+◌, ◌<◌, length, map, slice_index_or, slice_set, IfOk, IfSome, None, OnErr, OnOk, Some};
+ghost use Rattle.std.specs.Prelude.{◌≡◌, ◌+◌, ◌<◌, [], length, map, slice_index_or, slice_set, IfOk, IfSome, None, OnErr, OnOk, Some};
 ghost use Rattle.ap_books.specs.Counts.{none};
 ghost use Rattle.ap_books.specs.Reading.{Reads};
 ghost use Rattle.ap_live.specs.Counting.{counted_by, tally};
 ghost use Rattle.versions.specs.Sets.{set_of};
 ghost use Rattle.hook_judge.specs.Sums.{no_counts};
 ghost use Rattle.apd_run.specs.InForce.{budget_shown, budgets_of, row_shown, rows_of, with_counts};
-ghost use Rattle.apd_run.specs.Hands.{claims, crew_of, work_of};
-ghost use Rattle.apd_run.specs.Deciding.{Accounts, TookOf};
+ghost use Rattle.versions.specs.Lists.{Begins};
+ghost use Rattle.apd_run.specs.Hands.{claims, crew_of, tells, work_of};
+ghost use Rattle.apd_run.specs.Deciding.{Accounts, TookAllOf};
 ghost use Rattle.apd_run.specs.Work.{Does, Meets};
 ghost use Rattle.apd_script.specs.Asked.{Adopt, Load, Read, Store, Sum, Unload};
 ghost use Rattle.apd_driver.specs.Tallies.{told_counts};
@@ -45,8 +46,8 @@ pub(crate) struct Sources<'a, F> {
 }
 
 /// The operator of a run: its token, the parts of the ledgers, the pages and the handles of queues that no worker has, of
-/// how many items of each worker's queue it took over what became of them, what these parts have counted, what was counted
-/// of the programs in force, and their sources. Contracts see all of it.
+/// how many items of each worker's queue it took over what became of them, of how many loads it told each worker, what these
+/// parts have counted, what was counted of the programs in force, and their sources. Contracts see all of it.
 #[derive(Drop)]
 pub struct LiveOperator<'a, B: Ledgers + Journals, L: Names, F: Files> {
     pub(crate) ap: &'a LiveAp<B>,
@@ -56,6 +57,7 @@ pub struct LiveOperator<'a, B: Ledgers + Journals, L: Names, F: Files> {
     pub(crate) parts: u64,
     pub(crate) passes: LinePasses,
     pub(crate) taken: [u64; 8],
+    pub(crate) told: [u64; 8],
     pub(crate) totals: Totals,
     pub(crate) workers: u64,
     pub(crate) loads: &'a mut Loads,
@@ -78,6 +80,7 @@ impl<'a, B: Ledgers + Journals, L: Names, F: Files> Model for LiveOperator<'a, B
       parts = o.parts;
       passes = o.passes;
       taken = o.taken;
+      told = o.told;
       totals = o.totals;
       workers = o.workers;
       loads = o.loads.now;
@@ -95,6 +98,7 @@ impl<'a, B: Ledgers + Journals, L: Names, F: Files> Model for LiveOperator<'a, B
       parts = o.parts;
       passes = o.passes;
       taken = o.taken;
+      told = o.told;
       totals = o.totals;
       workers = o.workers;
       loads = o.loads.now;
@@ -202,15 +206,28 @@ impl<'a, B: Ledgers + Journals, L: Names, F: Files> LiveOperator<'a, B, L, F> {
 }
 
 impl<'a, B: Ledgers + Journals, L: Names, F: Files> LiveOperator<'a, B, L, F> {
-    /// Meets a worker at its queue: what the worker took is a prefix of what the operator put there. Does nothing at run
-    /// time.
-    fn meet_at_queue<G: Drop>(&mut self, worker: &mut LiveWorker<'a, B, L, G>)
+    /// Meets a worker at its queue: the worker took all that the operator put there. Err: something is left, which can't
+    /// happen if the worker served until it found nothing.
+    fn meet_at_queue<G: Drop>(
+        &mut self,
+        worker: &mut LiveWorker<'a, B, L, G>,
+    ) -> Result<(), AllocError>
         ensures same { crew_of F.held self.new ≡ crew_of F.held self.old }
-        ensures took { TookOf (work_of F.held self.new).puts worker.new.token }
+        ensures took { OnOk result (TookAllOf (work_of F.held self.new).puts worker.new.token) }
     {
         let token = &mut *self.token;
-        self.ap
+        let is_empty = self
+            .ap
             .meet_alone(&mut worker.token, token, &mut self.passes);
+        if is_empty { Ok(()) } else { Err(AllocError) }
+    }
+
+    /// Meets a worker at the published loads: what it has seen of them is a prefix. Does nothing at run time.
+    fn meet_at_loads<G: Drop>(&mut self, worker: &LiveWorker<'a, B, L, G>)
+        ensures same { crew_of F.held self.new ≡ crew_of F.held self.old }
+        ensures seen { Begins worker.now.token.seen (work_of F.held self.old).loads }
+    {
+        self.loads.meet(worker.ap, &worker.token);
     }
 
     /// Meets a worker: the operator then knows all that the worker decided, in the one history of each shard. Does nothing
@@ -241,11 +258,14 @@ impl<'a, B: Ledgers + Journals, L: Names, F: Files> LiveOperator<'a, B, L, F> {
         ensures agrees { OnOk result (slice_index_or (work_of F.held self.old).taken
             worker.old.number 0 ≡ worker.old.given) }
         ensures accounts { IfOk result
-            (λ handled. Accounts worker.old.given worker.old.token handled.items) }
+            (λ handled. Accounts worker.old.given worker.old.told worker.old.token handled.items) }
         ensures programs { OnOk result (self.new.programs
             ≡ with_counts self.old.programs worker.old.token.held.counts) }
         ensures worker { OnOk result (counted_by worker.new.token.shards ≡ none) }
         ensures anew { OnOk result (worker.new.token.held.counts ≡ no_counts) }
+        ensures rest { OnOk result (worker.new.handled ≡ []) }
+        ensures told { OnOk result (worker.new.told ≡ worker.old.told) }
+        ensures same { OnOk result (worker.new.number ≡ worker.old.number) }
     {
         let many = worker.handled.len() as u64;
         let given = claim(&mut self.taken, worker.number, worker.given, many)?;
@@ -261,13 +281,21 @@ impl<'a, B: Ledgers + Journals, L: Names, F: Files> LiveOperator<'a, B, L, F> {
         Ok(handled)
     }
 
-    /// Tells a worker of the loads so far.
-    fn tell<G: Drop>(&mut self, worker: &mut LiveWorker<'a, B, L, G>)
-        ensures same { crew_of F.held self.new ≡ crew_of F.held self.old }
-        ensures worker { worker.new.token.shards ≡ worker.old.token.shards }
+    /// Tells a worker of the loads so far. Err: it was told of another number of them than was noted, which can't happen.
+    fn tell<G: Drop>(&mut self, worker: &mut LiveWorker<'a, B, L, G>) -> Result<(), AllocError>
+        requires nothing { worker.old.handled ≡ [] }
+        ensures crew { OnOk result (crew_of F.held self.new
+            ≡ tells (crew_of F.held self.old) worker.old.number) }
+        ensures agrees { OnOk result (slice_index_or (work_of F.held self.old).told
+            worker.old.number 0 ≡ worker.old.told) }
+        ensures worker { OnOk result (worker.new.token.shards ≡ worker.old.token.shards) }
     {
+        let count = self.loads.count();
+        note(&mut self.told, worker.number, worker.told, count)?;
+        worker.told = count;
         let news = self.loads.tell();
         worker.ap.learn(&mut worker.token, news);
+        Ok(())
     }
 
     /// Takes back a worker's parts of the ledgers, which have counted nothing.
@@ -316,14 +344,25 @@ fn claim(taken: &mut [u64; 8], number: usize, given: u64, many: u64) -> Result<u
     ensures noted { OnOk result (taken.new ≡ slice_set taken.old number (given + many)) }
     ensures refused { OnErr result (taken.new ≡ taken.old) }
 {
-    if number >= taken.len() || taken[number] != given {
-        return Err(AllocError);
-    }
     let Some(all) = given.checked_add(many) else {
         return Err(AllocError);
     };
-    taken[number] = all;
+    note(taken, number, given, all)?;
     Ok(all)
+}
+
+/// Notes a new number for a worker. Err: another one than `old` was noted, which can't happen.
+fn note(noted: &mut [u64; 8], worker: usize, old: u64, new: u64) -> Result<(), AllocError>
+    ensures below { OnOk result (worker < length noted.old) }
+    ensures agrees { OnOk result (slice_index_or noted.old worker 0 ≡ old) }
+    ensures noted { OnOk result (noted.new ≡ slice_set noted.old worker new) }
+    ensures refused { OnErr result (noted.new ≡ noted.old) }
+{
+    if worker >= noted.len() || noted[worker] != old {
+        return Err(AllocError);
+    }
+    noted[worker] = new;
+    Ok(())
 }
 
 /// The part of an event that is still to be submitted.
@@ -422,10 +461,11 @@ impl<'a, B: Ledgers + Journals, L: Names, F: Files, G: Drop> Operating<LiveWorke
         worker: &mut LiveWorker<'a, B, L, G>,
         reports: &mut Vec<Report>,
     ) -> Result<(), AllocError> {
-        self.meet_at_queue(worker);
+        self.meet_at_queue(worker)?;
         self.meet(worker);
+        self.meet_at_loads(worker);
         let handled = self.exchange(worker)?;
-        self.tell(worker);
+        self.tell(worker)?;
         report_all(reports, handled)?;
         Ok(())
     }

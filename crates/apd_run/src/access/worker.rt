@@ -10,8 +10,8 @@ use std::marker::{Model, PhantomData};
 use std::sync::Wait;
 
 /// A worker of a run: its token and number, what it needs for each event, how many items it had taken when the operator
-/// last took over its counts, and what became of each since then, which is what these count. Contracts see the access
-/// point, the number, the token, how many and the list.
+/// last took over its counts, of how many loads it was told then, and what became of each item since then, which is what
+/// these count. Contracts see the access point, the number, the token, both counts and the list.
 #[derive(Drop)]
 pub struct LiveWorker<'a, B: Ledgers + Journals, L: Names, G: Drop> {
     pub(crate) ap: &'a LiveAp<B>,
@@ -20,6 +20,7 @@ pub struct LiveWorker<'a, B: Ledgers + Journals, L: Names, G: Drop> {
     pub(crate) number: usize,
     pub(crate) token: WorkerToken<B>,
     pub(crate) given: u64,
+    pub(crate) told: u64,
     pub(crate) handled: Vec<Tagged>,
     pub(crate) list: PhantomData<L>,
 }
@@ -29,10 +30,10 @@ impl<'a, B: Ledgers + Journals, L: Names, G: Drop> Model for LiveWorker<'a, B, L
 
     ghost Value = { RunWorker };
 
-    ghost view = { λ w. record { ap = w.ap.now; number = w.number; given = w.given; token = w.token; handled = w.handled.items } };
+    ghost view = { λ w. record { ap = w.ap.now; number = w.number; given = w.given; told = w.told; token = w.token; handled = w.handled.items } };
 
     ghost invariant = { λ w. IsRunWorker L.ap
-        (record { ap = w.ap.now; number = w.number; given = w.given; token = w.token; handled = w.handled.items }) };
+        (record { ap = w.ap.now; number = w.number; given = w.given; told = w.told; token = w.token; handled = w.handled.items }) };
 }
 
 impl<'a, B: Ledgers + Journals, L: Names, G: Gate + Drop> Serving for LiveWorker<'a, B, L, G> {

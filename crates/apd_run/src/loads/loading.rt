@@ -1,10 +1,14 @@
 //! Loading and unloading programs.
 
-ghost use Rattle.std.specs.Prelude.{◌≡◌, IfOk, None, OnOk, OnErr};
-ghost use Rattle.versions.specs.Lists.{with_load};
+ghost use Rattle.std.specs.Prelude.{◌≡◌, length, IfOk, None, OnOk, OnErr};
+ghost use Rattle.ap_live.specs.Tokens.{IsWorker};
+ghost use Rattle.versions.specs.Lists.{Begins, with_load};
 ghost use Rattle.versions.specs.Sets.{load};
 ghost use Rattle.apd_run.specs.Loading.{PutsInForce, LoadsProgram, LoadsCode, LoadsFile, refused_told};
 
+use ap_books::Ledgers;
+use ap_live::{LiveAp, WorkerToken};
+use ap_locked::Journals;
 use apd_driver::{Told, Unread};
 use apd_files::{CodeFault, Files, read_code};
 use bpf_decode::{DecodeFault, Program, decode};
@@ -47,6 +51,24 @@ impl Loads {
             publisher,
             shapes,
         }
+    }
+
+    /// How many loads were published.
+    pub fn count(&self) -> u64
+        ensures is { result ≡ length self.now.loads }
+    {
+        self.publisher.count()
+    }
+
+    /// Brings a worker and the published loads together: what it has seen of them, or was told of, is a prefix of them.
+    /// Does nothing at run time.
+    pub fn meet<B: Ledgers + Journals>(&mut self, ap: &LiveAp<B>, worker: &WorkerToken<B>)
+        requires own { IsWorker ap.now worker.now }
+        requires list { self.old.list ≡ ap.now.list.list }
+        ensures same { self.new ≡ self.old }
+        ensures seen { Begins worker.now.seen self.old }
+    {
+        ap.meet_publisher(worker, &mut self.publisher);
     }
 
     /// The loads so far, for one reader to learn.

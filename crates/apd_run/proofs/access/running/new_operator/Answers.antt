@@ -11,5 +11,6 @@ returns-clause-new g c =
       config_is = refl;
       unput = c.requires.new.unput ∙ ap (λ (n : ℕ). replicate n []) c.requires.each;
       untaken = refl;
+      untold = refl;
       no_loads = c.requires.no_loads;
     }

@@ -15,7 +15,7 @@ use Rattle.apd_run.specs.InForce.{AreInForce, with_counts}
 use Rattle.apd_run.specs.declared.access.program_counts.ProgramCounts.{ProgramCounts}
 use Rattle.apd_run.proofs.Budgeting.{counted_in_force}
 use Rattle.apd_run.proofs.Deciding.{renewed_unowned}
-use Rattle.apd_run.proofs.Keeping.{other_parts, other_taken}
+use Rattle.apd_run.proofs.Keeping.{other_notes, other_parts}
 use Rattle.apd_run.proofs.Operated.{claimed_crew}
 use Rattle.apd_run.proofs.Sums.{exchanged_parts, exchanged_sum, fresh, more_than_one}
 use Rattle.apd_run.proofs.access.operator.LiveOperator.exchange.Goals as goal
@@ -31,7 +31,7 @@ pub returns-clause-worker : goal.returns-clause-worker
 returns-clause-worker g c = ap sum_of c.renew-counted.ensures.taken ∙ c.split_off-fresh.ensures.none
 
 pub invariant_of-self : goal.invariant_of-self
-invariant_of-self g c = other_taken _ _ _ c.claim.new.taken c.self.invariant
+invariant_of-self g c = other_notes _ _ _ c.claim.new.taken _ c.self.invariant
 
 pub invariant_of-self-2 : goal.invariant_of-self-2
 invariant_of-self-2 g c =
@@ -87,8 +87,8 @@ returns-clause-crew g c =
 
 pub returns-clause-accounts : goal.returns-clause-accounts
 returns-clause-accounts g c =
-    subst (λ (w : RunWorker). Accounts w.given w.token c.replace-handled.result.items) c.worker.view_is
-    (subst (λ (v : Vec Tagged). Accounts c.worker.inside.given c.worker.inside.token v.items) (sym c.replace-handled.ensures.value) c.worker.invariant.accounts)
+    subst (λ (w : RunWorker). Accounts w.given w.told w.token c.replace-handled.result.items) c.worker.view_is
+    (subst (λ (v : Vec Tagged). Accounts c.worker.inside.given c.worker.inside.told c.worker.inside.token v.items) (sym c.replace-handled.ensures.value) c.worker.invariant.accounts)
 
 pub returns-clause-number : goal.returns-clause-number
 returns-clause-number g c = subst (λ (w : RunWorker). w.number ≡ w.token.number) c.worker.view_is c.worker.invariant.number_is

@@ -20,11 +20,11 @@ pub invariant_of-worker : goal.invariant_of-worker
 invariant_of-worker g c =
     let t : Worker = c.meet_alone.new.worker in
     same_parts _ _ t (subst (λ (a : Live). IsWorker a t) (c.self.invariant.ap_is ∙ sym c.worker.invariant.ap_is) c.meet_alone.ensures.worker) (ap (λ (w : Worker). w.number) c.meet_alone.ensures.same) c.meet_alone.ensures.taken
-    (ap (λ (w : Worker). w.shards) c.meet_alone.ensures.same) c.worker.invariant
+    (ap (λ (w : Worker). w.seen) c.meet_alone.ensures.same) (ap (λ (w : Worker). w.shards) c.meet_alone.ensures.same) c.worker.invariant
 
 pub returns-clause-same : goal.returns-clause-same
 returns-clause-same g c =
     same_puts g.F.Files.held _ _ c.meet_alone.new.operator _ c.self.view_is c.deref_mut-token.ensures.value c.meet_alone.ensures.put c.meet_alone.ensures.same_operator
 
-pub returns-clause-took : goal.returns-clause-took
-returns-clause-took g c = took_alone c.deref_mut-token.result.now.lines c.meet_alone.new.operator.lines _ _ c.meet_alone.ensures.put c.meet_alone.ensures.same c.meet_alone.ensures.taken c.meet_alone.ensures.order
+pub returns-in-Ok-clause-took : goal.returns-in-Ok-clause-took
+returns-in-Ok-clause-took g c = took_alone c.deref_mut-token.result.now.lines c.meet_alone.new.operator.lines _ _ c.meet_alone.ensures.put c.meet_alone.ensures.same c.meet_alone.ensures.taken (c.meet_alone.ensures.whole c.in_true)
