@@ -1,6 +1,6 @@
 //! What the threads of an access point share.
 
-ghost use Rattle.std.specs.Prelude.{◌≡◌, IfOk, OnOk};
+ghost use Rattle.std.specs.Prelude.{◌≡◌, length, IfOk, OnOk};
 ghost use Rattle.ap_books.specs.Holdings.{HasParts, sum_of};
 ghost use Rattle.ap_books.specs.Reading.{Reads};
 ghost use Rattle.ap_shards.specs.Pages.{AreTheJournals, HasPages};
@@ -53,6 +53,13 @@ impl<B: Ledgers + Journals> Model for LiveAp<B> {
 }
 
 impl<B: Ledgers + Journals> LiveAp<B> {
+    /// How many workers there are, each with a queue of its own.
+    pub fn workers(&self) -> usize
+        ensures is { result ≡ length self.now.queues }
+    {
+        self.lines.workers()
+    }
+
     /// Given all parts of all ledgers: the sum of the books, which is what all shares have counted, mod
     /// 2^64, and what the entries of the shards' journals count.
     pub fn gather<R: Wait>(&self, rt: &R, all: &mut Portions<B>) -> Totals

@@ -1,5 +1,5 @@
 -- The reports of an interval, together.
-use Rattle.std.proofs.Common.{◌≡◌, ◌==◌, ℕ, ◌+◌, ◌<◌, List, [], ◌∷◌, ◌++◌, length, map, take, get_or, Bool, true, Option, refl, sym, ap, ◌∙◌, append_assoc, append-nil}
+use Rattle.std.proofs.Common.{◌≡◌, ◌==◌, inl, inr, ℕ, ◌+◌, ◌<◌, List, [], ◌∷◌, ◌++◌, length, map, take, get_or, Bool, true, Option, refl, sym, ap, ◌∙◌, append_assoc, append-nil}
 use Rattle.std.proofs.lemmas.Bool.{eqb-true}
 use Rattle.std.proofs.lemmas.List.{map-append, nil_from_length, take_more}
 use Rattle.ap_books.specs.Counts.{Counts, none, plus}
@@ -25,8 +25,9 @@ others_count xs ys zs t is =
 
 -- the operator's reports, those on malformed lines, and the workers'
 pub gathered : {s : Semantics} → (lines : List (ℕ × Asked)) (malformed : List ℕ) (crew crew1 crew2 : Crew s) (told listed handed : List Report) → Works crew crew1 → Lists (FollowsAll s crew.work lines crew1.work) [] told
-    → Lists (AnswerMalformed malformed) told listed → Tells [] listed → Collects crew1 crew2 listed handed → Gathered lines malformed crew crew2 handed
-gathered {s} lines malformed crew crew1 crew2 told listed handed works h k t c =
+    → Lists (AnswerMalformed malformed) told listed → Tells [] listed → Collects crew1 crew2 listed handed → s.NoneLeft crew2.work
+    → Gathered lines malformed crew crew2 handed
+gathered {s} lines malformed crew crew1 crew2 told listed handed works h k t c none =
     let counts : Counts = tallied c.reports in
     record {
       work = crew1.work;
@@ -36,6 +37,7 @@ gathered {s} lines malformed crew crew1 crew2 told listed handed works h k t c =
       on_malformed = k.kind;
       others = c.reports;
       taken = c.taken;
+      none_left = inr none;
       all = c.listed ∙ (ap (λ (l : List Report). l ++ c.reports) (k.listed ∙ ap (λ (l : List Report). l ++ k.reports) h.listed) ∙ append_assoc h.reports k.reports c.reports);
       counts = c.counted
           ∙ (ap (λ (x : Crew s). with_work (gains x counts) crew2.work) works ∙ ap (λ (x : Counts). with_work (gains crew x) crew2.work) (sym (others_count listed c.reports handed t c.listed)));
@@ -60,6 +62,7 @@ gathered_answers malformed crew handed only =
       on_malformed = only.on_malformed;
       others = [];
       taken = FromNone;
+      none_left = inl refl;
       all = sym (append-nil handed);
       counts = λ i. record { workers = crew.workers; counted = sym same i; work = crew.work };
     }

@@ -64,7 +64,8 @@ fn collect_one<W: Serving + Drop, O: Operating<W> + Drop, R: Wait>(
     Ok(())
 }
 
-/// Waits for all workers and takes them back. The reports on their events are appended to the operator's.
+/// Waits for all workers and takes them back. The reports on their events, which are all that were put, are appended to the
+/// operator's.
 pub(crate) fn collect<W: Serving + Drop, O: Operating<W> + Drop, R: Wait>(
     setting: &Setting<'_, W, R>,
     staff: &mut Staff<W, O>,
@@ -74,9 +75,10 @@ pub(crate) fn collect<W: Serving + Drop, O: Operating<W> + Drop, R: Wait>(
         (vec_len staff.new.workers ≡ vec_len staff.old.workers + length setting.now.desks.now) }
     ensures collects { OnOk result (Collects (O.crew staff.old.operator) (O.crew staff.new.operator)
         all.old.items all.new.items) }
+    ensures none_left { OnOk result (O.semantics.NoneLeft (O.crew staff.new.operator).work) }
 {
     for desk in setting.desks {
         collect_one(setting.rt, desk, staff, all)?;
     }
-    Ok(())
+    staff.operator.find_none_left()
 }

@@ -96,6 +96,11 @@ pub trait Operating<W> {
             reports.old.items reports.new.items) }
         ensures worker { OnOk result (taken worker.new ≡ none) };
 
+    /// Finds that what became of all events that were put was taken over. Err: of some it wasn't, which can't happen if each
+    /// worker was settled after the last was put.
+    fn find_none_left(&self) -> Result<(), AllocError>
+        ensures none_left { OnOk result (semantics.NoneLeft (crew self.now).work) };
+
     /// Takes a worker's rights back.
     fn dismiss(&mut self, worker: W)
         requires some { 0 < (crew self.old).workers }

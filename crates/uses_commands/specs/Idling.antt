@@ -9,4 +9,5 @@ idle =
       Puts = λ old new line e shard. Unit {0};
       Takes = λ old new reports. Unit {0};
       Sees = λ old new. Unit {0};
+      NoneLeft = λ work. Unit {0};
     }

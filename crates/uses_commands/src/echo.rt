@@ -196,6 +196,10 @@ impl Operating<Echo> for Places {
         Ok(())
     }
 
+    fn find_none_left(&self) -> Result<(), AllocError> {
+        Ok(())
+    }
+
     fn dismiss(&mut self, _worker: Echo) {
         self.workers -= 1;
     }
