@@ -7,8 +7,8 @@ use Rattle.apd_driver.specs.declared.reports.report.Told.{Told}
 
 -- What is known of the work so far; whether what a line asks for was done between one work and another, with what is told
 -- of it, if anything; whether, between them, the event of the line with this number was put at a shard; whether these
--- reports were taken over from a worker; whether the operator only looked at what had been decided; and whether what became
--- of all events that were put was taken over.
+-- reports were taken over from a worker; whether the operator only looked at what had been decided; and whether nothing is
+-- left for a worker to report, or to be told.
 pub record Semantics : Type 1 where
   pub Work : Type 0
   pub Does : Work → Work → Asked → Option Told → Type 0

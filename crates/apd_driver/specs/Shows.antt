@@ -80,8 +80,8 @@ abbrev pub AnswerMalformed : List ℕ → List Report → Type 0
 AnswerMalformed malformed reports = map malformed_by reports ≡ map malformed_at malformed
 
 -- The reports of an interval: those of the operator, which follows the lines, those on malformed lines, and those on what
--- became of events, which it then takes over from the workers, of all that were put, unless there is no line. They are what
--- was counted.
+-- became of events, which it then takes over from the workers; none is left, unless there is no line. They are what was
+-- counted.
 pub record Gathered {s : Semantics} (lines : List (ℕ × Asked)) (malformed : List ℕ) (crew crew2 : Crew s) (handed : List Report) : Type 0 where
   pub work : s.Work
   pub told : List Report

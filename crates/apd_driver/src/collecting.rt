@@ -64,8 +64,7 @@ fn collect_one<W: Serving + Drop, O: Operating<W> + Drop, R: Wait>(
     Ok(())
 }
 
-/// Waits for all workers and takes them back. The reports on their events, which are all that were put, are appended to the
-/// operator's.
+/// Waits for all workers and takes them back. The reports on their events are appended to the operator's; none is left.
 pub(crate) fn collect<W: Serving + Drop, O: Operating<W> + Drop, R: Wait>(
     setting: &Setting<'_, W, R>,
     staff: &mut Staff<W, O>,

@@ -96,8 +96,8 @@ pub trait Operating<W> {
             reports.old.items reports.new.items) }
         ensures worker { OnOk result (taken worker.new ≡ none) };
 
-    /// Finds that what became of all events that were put was taken over. Err: of some it wasn't, which can't happen if each
-    /// worker was settled after the last was put.
+    /// Finds that nothing is left for a worker to report, or to be told. Err: something is, which can't happen if each
+    /// worker was settled after the last line was followed.
     fn find_none_left(&self) -> Result<(), AllocError>
         ensures none_left { OnOk result (semantics.NoneLeft (crew self.now).work) };
 

@@ -85,11 +85,11 @@ pub keeps_read : (files : Held) {files1 : Held} {path : List ℕ} {known : Type 
     → (known → Begins before begun) → KeepsWhole form script mid new begun after → KeepsScript files path known form old new before after
 keeps_read files {files1} {path} {known} {form} {text} {text1} {shapes} {lines} {script} {old} {mid} {new} {before} {begun} {after} first holds text_is is_script lines_are same begins whole =
     record {
+      shapes = shapes;
       lines = lines;
       is_script = record {
         text = text;
         holds = subst (λ (f : Held). Holds f path text) first holds;
-        shapes = shapes;
         is_script = subst (λ (t : List ℕ). IsScript shapes t lines) text_is is_script;
       };
       keeps = keeps_capture same begins (subst (λ (s : Option (List (ℕ × Asked))). KeepsWhole form s mid new begun after) lines_are whole);

@@ -200,6 +200,13 @@ taken_length given told w l h =
     let many : length l ≡ length h.items = sym (length-map l (λ (t : Tagged). t.item)) ∙ (ap length h.same ∙ length-map h.items (λ (x : Queued). x.item)) in
     ap length h.taken ∙ (length-append h.before h.items ∙ (λ i. h.first i + sym many i))
 
+-- a worker that took all that was put took as many items
+pub all_taken : (puts : List (List Item)) (given told many worker : ℕ) (w : Worker) (l : List Tagged) → worker ≡ w.number → many ≡ given + length l → TookAllOf puts w → Accounts given told w l
+    → many ≡ length (slice_index_or puts worker [])
+all_taken puts given told many worker w l number sum t h =
+    let put : length (slice_index_or puts w.number []) ≡ length (taken_by w.pass) = ap length t.put ∙ length-map (taken_by w.pass) (λ (x : Queued). x.item) in
+    sum ∙ (sym (taken_length given told w l h) ∙ (sym put ∙ ap (λ (k : ℕ). length (slice_index_or puts k [])) (sym number)))
+
 -- without events, no entry is the worker's own
 no_deed : (es : List Entry) → map deed_of es ≡ [] → es ≡ []
 no_deed [] is = refl

@@ -1,5 +1,8 @@
 -- What changes of tokens and of loads preserve.
-use Rattle.std.proofs.Common.{◌≡◌, ◌+◌, ◌<◌, ◌≤◌, ℕ, List, [], length, sym, ap, subst, ◌∙◌, arith, add-zero}
+use Rattle.std.proofs.Common.{◌≡◌, ◌≢◌, ◌+◌, ◌<◌, ◌≤◌, ℕ, zero, suc, Bool, true, false, true≢false, List, [], length, replicate, slice_set, sym, ap, subst, ◌∙◌, arith, add-zero, get_or-set_same, get_or-set_other}
+use Rattle.std.specs.Prelude.{slice_index_or}
+use mathlib.Core.Logic.{dite}
+use native.Mathlib.Decide.{ℕ_discrete}
 use Rattle.ap_model.specs.Readings.{Config}
 use Rattle.ap_books.specs.Counts.{none}
 use Rattle.ap_books.specs.Holdings.{Holding, HasParts, sum_of}
@@ -12,21 +15,65 @@ use Rattle.ap_live.specs.Tokens.{Operator, IsOperator, Worker, IsWorker}
 use Rattle.ap_live.specs.Upholding.{token_at}
 use Rattle.ap_live.specs.declared.tagged.Tagged.{Tagged}
 use Rattle.versions.specs.Lists.{Beginning}
+use Rattle.versions.specs.declared.list.Load.{Load}
 use Rattle.versions.proofs.Beginnings.{prefix_length}
 use Rattle.hook_judge.specs.Sums.{no_counts}
 use Rattle.apd_run.specs.InForce.{AreInForce}
 use Rattle.apd_run.specs.declared.access.program_counts.ProgramCounts.{ProgramCounts}
 use Rattle.ap_queues.specs.declared.lines.passes.LinePasses.{LinePasses}
+use Rattle.ap_queues.specs.declared.lines.passes.OperatorLines.{OperatorLines}
+use Rattle.ap_queues.specs.Items.{Item}
+use Rattle.ap_queues.specs.Lines.{puts_of}
 use Rattle.apd_run.specs.Dealing.{AreRest}
-use Rattle.apd_run.specs.Hands.{RunOperator, IsRunOperator, RunWorker, IsRunWorker}
+use Rattle.apd_run.specs.Hands.{AreSettled, RunOperator, IsRunOperator, RunWorker, IsRunWorker}
 use Rattle.apd_run.proofs.Deciding.{accounts_empty, accounts_more, accounts_none, accounts_same, kept_own, saw_more, taken_length}
 use Rattle.apd_run.proofs.Served.{more_counted, nothing_counted}
 use Rattle.apd_run.proofs.Sums.{keeps_parts}
 
--- an operator whose token has the same parts of the ledgers
-pub other_token : {F : Type 0} → (shares : ℕ) (place : Live) (o : RunOperator F) (t : Operator) → IsOperator o.ap t → t.shards ≡ o.token.shards → IsRunOperator shares place o
-    → IsRunOperator shares place (record o { token = t })
-other_token shares place o t own same h =
+-- ---- workers that are settled
+
+-- none
+pub none_settled : (taken told : List ℕ) (puts : List (List Item)) (loads : List Load) → AreSettled (replicate 8 false) taken told puts loads
+none_settled taken told puts loads = record { all_taken = λ worker is. absurd (unset 8 worker is); all_told = λ worker is. absurd (unset 8 worker is) }
+  where
+    unset : (n k : ℕ) → slice_index_or (replicate n false) k false ≡ true → ⊥
+    unset zero k is = absurd (true≢false (sym is))
+    unset (suc n) zero is = absurd (true≢false (sym is))
+    unset (suc n) (suc k) is = unset n k is
+
+-- a number in the place of another
+put_here : (xs : List ℕ) (worker k x : ℕ) → worker < length xs → k ≡ worker → slice_index_or (slice_set xs worker x) k 0 ≡ x
+put_here xs worker k x low same = ap (λ (j : ℕ). slice_index_or (slice_set xs worker x) j 0) same ∙ get_or-set_same xs worker x 0 low
+
+-- all items of one queue were taken over
+pub settled_taken : (settled : List Bool) (taken told : List ℕ) (puts : List (List Item)) (loads : List Load) (worker many : ℕ) → worker < length taken → many ≡ length (slice_index_or puts worker []) → AreSettled settled taken told puts loads
+    → AreSettled settled (slice_set taken worker many) told puts loads
+settled_taken settled taken told puts loads worker many low is h =
+    record {
+      all_taken = λ k set. dite (ℕ_discrete k worker)
+          (λ same. put_here taken worker k many low same ∙ (is ∙ ap (λ (j : ℕ). length (slice_index_or puts j [])) (sym same)))
+          (λ apart. get_or-set_other taken worker k many 0 apart ∙ h.all_taken k set);
+      all_told = h.all_told;
+    }
+
+-- one more, which was told of all loads
+pub one_settled : (settled : List Bool) (taken told : List ℕ) (puts : List (List Item)) (loads : List Load) (worker many : ℕ) → worker < length told → slice_index_or taken worker 0 ≡ length (slice_index_or puts worker []) → many ≡ length loads
+    → AreSettled settled taken told puts loads → AreSettled (slice_set settled worker true) taken (slice_set told worker many) puts loads
+one_settled settled taken told puts loads worker many low whole is h =
+    record {
+      all_taken = λ k set. dite (ℕ_discrete k worker)
+          (λ same. (λ i. slice_index_or taken (same i) 0) ∙ (whole ∙ (λ i. length (slice_index_or puts (sym same i) []))))
+          (λ apart. h.all_taken k (was k apart set));
+      all_told = λ k set. dite (ℕ_discrete k worker) (λ same. put_here told worker k many low same ∙ is) (λ apart. get_or-set_other told worker k many 0 apart ∙ h.all_told k (was k apart set));
+    }
+  where
+    was : (k : ℕ) → k ≢ worker → slice_index_or (slice_set settled worker true) k false ≡ true → slice_index_or settled k false ≡ true
+    was k apart set = sym (get_or-set_other settled worker k true false apart) ∙ set
+
+-- an operator whose token has the same parts of the ledgers, and may have put more
+pub put_token : {F : Type 0} → (shares : ℕ) (place : Live) (o : RunOperator F) (t : Operator) → IsOperator o.ap t → t.shards ≡ o.token.shards → IsRunOperator shares place o
+    → IsRunOperator shares place (record o { token = t; settled = replicate 8 false })
+put_token shares place o t own same h =
     record {
       own = own;
       ap_is = h.ap_is;
@@ -41,12 +88,36 @@ other_token shares place o t own same h =
       list_is = h.list_is;
       reads = h.reads;
       in_force = h.in_force;
+      are_settled = none_settled o.taken o.told (puts_of t.lines) o.loads.loads;
     }
 
--- an operator that took over what became of other numbers of items, and told workers of other numbers of loads
-pub other_notes : {F : Type 0} → (shares : ℕ) (place : Live) (o : RunOperator F) (taken told : List ℕ) → IsRunOperator shares place o → IsRunOperator shares place (record o { taken = taken; told = told })
-other_notes shares place o taken told h =
+-- an operator whose token has the same parts of the ledgers, and put nothing more
+pub other_token : {F : Type 0} → (shares : ℕ) (place : Live) (o : RunOperator F) (t : Operator) → IsOperator o.ap t → t.shards ≡ o.token.shards → t.lines ≡ o.token.lines → IsRunOperator shares place o
+    → IsRunOperator shares place (record o { token = t })
+other_token shares place o t own same still h =
     record {
+      own = own;
+      ap_is = h.ap_is;
+      rest = h.rest;
+      mine = subst (λ (e : Eight). HasParts 1 (holding_of e)) (sym same) h.mine;
+      nothing = ap counted_by same ∙ h.nothing;
+      parts = h.parts;
+      pages = h.pages;
+      all = h.all;
+      shares_are = h.shares_are;
+      some = h.some;
+      list_is = h.list_is;
+      reads = h.reads;
+      in_force = h.in_force;
+      are_settled = subst (λ (l : OperatorLines). AreSettled o.settled o.taken o.told (puts_of l) o.loads.loads) (sym still) h.are_settled;
+    }
+
+-- an operator that told a worker of all loads so far
+pub told_operator : {F : Type 0} → (shares : ℕ) (place : Live) (o : RunOperator F) (b : Beginning) (told : List ℕ) (settled : List Bool) → b ≡ o.loads → AreSettled settled o.taken told (puts_of o.token.lines) o.loads.loads
+    → IsRunOperator shares place o → IsRunOperator shares place (record o { told = told; settled = settled; loads = b })
+told_operator {F} shares place o b told settled same settled_now h =
+    subst (λ (x : Beginning). IsRunOperator shares place (record o { told = told; settled = settled; loads = x })) (sym same)
+    (record {
       own = h.own;
       ap_is = h.ap_is;
       rest = h.rest;
@@ -60,11 +131,16 @@ other_notes shares place o taken told h =
       list_is = h.list_is;
       reads = h.reads;
       in_force = h.in_force;
-    }
+      are_settled = settled_now;
+    })
 
--- an operator whose loads are of the same list, with the counts of their programs
+-- the same with the same loads
+pub same_loads : {F : Type 0} → (shares : ℕ) (place : Live) (o : RunOperator F) (b : Beginning) → b ≡ o.loads → IsRunOperator shares place o → IsRunOperator shares place (record o { loads = b })
+same_loads shares place o b same h = subst (λ (x : Beginning). IsRunOperator shares place (record o { loads = x })) (sym same) h
+
+-- an operator whose loads are of the same list, with the counts of their programs, and which may be others
 pub other_loads : {F : Type 0} → (shares : ℕ) (place : Live) (o : RunOperator F) (f : F) (b : Beginning) (programs : ProgramCounts) → b.list ≡ o.loads.list → AreInForce programs b.loads
-    → IsRunOperator shares place o → IsRunOperator shares place (record o { loads = b; programs = programs; files = f })
+    → IsRunOperator shares place o → IsRunOperator shares place (record o { loads = b; programs = programs; files = f; settled = replicate 8 false })
 other_loads shares place o f b programs same in_force h =
     record {
       own = h.own;
@@ -80,6 +156,7 @@ other_loads shares place o f b programs same in_force h =
       list_is = same ∙ h.list_is;
       reads = h.reads;
       in_force = in_force;
+      are_settled = none_settled o.taken o.told (puts_of o.token.lines) b.loads;
     }
 
 -- the token of a worker whose counts of its programs' runs were taken
@@ -180,6 +257,7 @@ met_operator shares place o t same k h =
       list_is = h.list_is;
       reads = h.reads;
       in_force = h.in_force;
+      are_settled = subst (λ (x : Operator). AreSettled o.settled o.taken o.told (puts_of x.lines) o.loads.loads) (sym same) h.are_settled;
     }
 
 -- a worker that may have seen more
@@ -196,9 +274,9 @@ met_worker place w t same k h =
     }
 
 -- an operator whose token met a worker at its queue
-pub queue_operator : {F : Type 0} → (shares : ℕ) (place : Live) (o : RunOperator F) (t : Operator) (passes : LinePasses) → IsOperator o.ap t → t.shards ≡ o.token.shards → AreRest o.ap passes
+pub queue_operator : {F : Type 0} → (shares : ℕ) (place : Live) (o : RunOperator F) (t : Operator) (passes : LinePasses) → IsOperator o.ap t → t.shards ≡ o.token.shards → puts_of t.lines ≡ puts_of o.token.lines → AreRest o.ap passes
     → IsRunOperator shares place o → IsRunOperator shares place (record o { token = t; passes = passes })
-queue_operator shares place o t passes own same rest h =
+queue_operator shares place o t passes own same put rest h =
     record {
       own = own;
       ap_is = h.ap_is;
@@ -213,4 +291,5 @@ queue_operator shares place o t passes own same rest h =
       list_is = h.list_is;
       reads = h.reads;
       in_force = h.in_force;
+      are_settled = subst (λ (l : List (List Item)). AreSettled o.settled o.taken o.told l o.loads.loads) (sym put) h.are_settled;
     }

@@ -1,5 +1,5 @@
 -- Reports on a worker's list.
-use Rattle.std.proofs.Common.{◌≡◌, ◌<◌, ℕ, List, [], ◌∷◌, ◌++◌, length, refl, sym, ap, subst, ◌∙◌, zero-add}
+use Rattle.std.proofs.Common.{◌≡◌, ◌<◌, ◌+◌, ℕ, List, [], ◌∷◌, ◌++◌, length, refl, sym, ap, subst, ◌∙◌, zero-add, get_or-set_same}
 use mathlib.Core.List.{IsPrefix}
 use Rattle.std.specs.Prelude.{true, false, None, slice_index_or}
 use Rattle.std.proofs.lemmas.List.Sums.{sum_by-append}
@@ -8,6 +8,7 @@ use Rattle.ap_books.specs.Counts.{Counts, none, plus}
 use Rattle.ap_live.specs.Counting.{fate_counts, tally}
 use Rattle.ap_shards.specs.declared.fate.Fate.{Fate}
 use Rattle.ap_shards.specs.declared.fate.Fate.TheVariants.{Decided, Refused, NotHandled}
+use Rattle.ap_queues.specs.Items.{Item}
 use Rattle.ap_live.specs.Tokens.{Worker}
 use Rattle.ap_live.specs.Upholding.{token_at}
 use Rattle.ap_live.specs.declared.tagged.Tagged.{Tagged}
@@ -15,13 +16,14 @@ use Rattle.apd_driver.specs.Crews.{Collects, Crew, Works, gains, with_work}
 use Rattle.apd_driver.specs.Following.{FromNone, FromOneMore, TakesAll}
 use Rattle.std.specs.List.{All}
 use Rattle.versions.specs.Lists.{Beginning}
+use Rattle.versions.specs.declared.list.Load.{Load}
 use Rattle.apd_run.specs.Deciding.{Accounts, TookAllOf, WasJudged}
 use Rattle.apd_run.specs.Hands.{claims, tells}
 use Rattle.apd_run.specs.Reports.{Handled, Memory, Report}
 use Rattle.apd_driver.specs.Tallies.{report_counts, tallied, told_counts}
 use Rattle.apd_run.specs.Telling.{dropped_in, report_if, reports_in, reports_of, told_of}
 use Rattle.apd_run.specs.Work.{Meets, Takes, Work, live, with_histories, with_taken, with_told}
-use Rattle.apd_run.proofs.Deciding.{all_judged, of_queue}
+use Rattle.apd_run.proofs.Deciding.{all_judged, all_taken, of_queue, took_still}
 use Rattle.apd_run.proofs.Sums.{none_plus, plus_three}
 
 -- ---- what reports count
@@ -98,16 +100,39 @@ collects_met crew mid crew2 list list2 given told worker w tags number took work
     }
 
 -- a worker's events were claimed, and then it was told of the loads
-pub told_after : (mid seen after crew2 : Crew live) (worker number many : ℕ) (counts : Counts) → seen ≡ mid → after ≡ gains (claims seen worker many) counts → number ≡ worker → crew2 ≡ tells after number
+pub told_after : (mid after crew2 : Crew live) (worker number many : ℕ) (counts : Counts) → after ≡ gains (claims mid worker many) counts → number ≡ worker → crew2 ≡ tells after number
     → crew2 ≡ gains (with_work mid (with_told (with_taken mid.work worker many) worker)) counts
-told_after mid seen after crew2 worker number many counts same claimed is told =
-    told ∙ ((λ i. tells (claimed i) (is i)) ∙ ap (λ (c : Crew live). tells (gains (claims c worker many) counts) worker) same)
+told_after mid after crew2 worker number many counts claimed is told = told ∙ (λ i. tells (claimed i) (is i))
 
 -- of how many loads it had been told before
-pub knew_before : (mid seen after : Crew live) (worker number many : ℕ) (counts : Counts) (told was : ℕ) → seen ≡ mid → after ≡ gains (claims seen worker many) counts → number ≡ worker
-    → slice_index_or after.work.told number 0 ≡ told → told ≡ was → slice_index_or mid.work.told worker 0 ≡ was
-knew_before mid seen after worker number many counts told was same claimed is agrees kept =
-    (λ i. slice_index_or ((sym same i).work.told) (sym is i) 0) ∙ ((λ i. slice_index_or ((sym claimed i).work.told) number 0) ∙ (agrees ∙ kept))
+pub knew_before : (mid after : Crew live) (worker number many : ℕ) (counts : Counts) (told was : ℕ) → after ≡ gains (claims mid worker many) counts → number ≡ worker → slice_index_or after.work.told number 0 ≡ told → told ≡ was
+    → slice_index_or mid.work.told worker 0 ≡ was
+knew_before mid after worker number many counts told was claimed is agrees kept = (λ i. slice_index_or ((sym claimed i).work.told) (sym is i) 0) ∙ (agrees ∙ kept)
+
+-- an operator that met a worker, and changed nothing more
+pub works_on : (crew mid seen : Crew live) → seen ≡ mid → Works crew mid → Works crew seen
+works_on crew mid seen same h = subst (λ (c : Crew live). Works crew c) (sym same) h
+
+pub meets_on : (crew mid seen : Crew live) (w : Worker) → seen ≡ mid → Meets crew.work mid.work w → Meets crew.work seen.work w
+meets_on crew mid seen w same h = subst (λ (c : Crew live). Meets crew.work c.work w) (sym same) h
+
+pub loads_on : (mid seen : Crew live) (loads : List Load) → seen ≡ mid → IsPrefix loads mid.work.loads.loads → IsPrefix loads seen.work.loads.loads
+loads_on mid seen loads same h = subst (λ (c : Crew live). IsPrefix loads c.work.loads.loads) (sym same) h
+
+-- a worker that was met took all that was put
+pub took_met : (crew mid seen : Crew live) (w w2 : Worker) → Meets crew.work mid.work w2 → seen ≡ mid → w2 ≡ record w { shards = w2.shards } → TookAllOf crew.work.puts w → TookAllOf seen.work.puts w2
+took_met crew mid seen w w2 m same still t =
+    let puts : seen.work.puts ≡ crew.work.puts = ap (λ (c : Crew live). c.work.puts) same ∙ ap (λ (x : Work). x.puts) m.sees.others in
+    subst (λ (l : List (List Item)). TookAllOf l w2) (sym puts) (took_still crew.work.puts w w2 still t)
+
+-- then all that was put into its queue was taken over
+pub whole_after : (seen after : Crew live) (worker number given told : ℕ) (counts : Counts) (w : Worker) (tags : List Tagged) → after ≡ gains (claims seen worker (length tags)) counts → number ≡ worker → worker ≡ w.number
+    → worker < length seen.work.taken → slice_index_or seen.work.taken worker 0 ≡ given → TookAllOf seen.work.puts w → Accounts given told w tags
+    → slice_index_or after.work.taken number 0 ≡ length (slice_index_or after.work.puts number [])
+whole_after seen after worker number given told counts w tags claimed is own low agrees took h =
+    let many : ℕ = slice_index_or seen.work.taken worker 0 + length tags in
+    let all : many ≡ length (slice_index_or seen.work.puts worker []) = all_taken seen.work.puts given told many worker w tags own (ap (λ (n : ℕ). n + length tags) agrees) took h in
+    (λ i. slice_index_or ((claimed i).work.taken) (is i) 0) ∙ (get_or-set_same seen.work.taken worker many 0 low ∙ (all ∙ (λ i. length (slice_index_or ((sym claimed i).work.puts) (sym is i) []))))
 
 -- the same after nothing changed
 pub collects_after : (crew crew1 crew2 : Crew live) (list list2 : List Report) → crew1 ≡ crew → Collects crew1 crew2 list list2 → Collects crew crew2 list list2

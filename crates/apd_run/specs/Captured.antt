@@ -1,5 +1,6 @@
 -- What a run prints, and what its capture has in the end.
 use Rattle.std.specs.Prelude.{◌≡◌, ◌⊎◌, ℕ, List, ◌++◌, Option, Some, None}
+use Rattle.bpf_regions.specs.declared.maps.Shape.{Shape}
 use Rattle.apd_files.specs.Held.{Held}
 use Rattle.apd_script.specs.Asked.{Asked}
 use Rattle.apd_driver.specs.Captures.{Interval, IsOfRun, KeepsWhole}
@@ -25,8 +26,9 @@ pub record KeepsCapture (known : Type 0) (form : Form) (script : Option (List (�
   pub whole : KeepsWhole form script old new begun after
   pub capture : known → IsCaptureOf before after whole.keeps.keeps.intervals
 
--- the same of the script in the file at this path
+-- the same of the script in the file at this path, where maps have some shapes
 pub record KeepsScript (files : Held) (path : List ℕ) (known : Type 0) (form : Form) (old new : Option (List ℕ)) (before after : Recorded) : Type 0 where
+  pub shapes : List Shape
   pub lines : List (ℕ × Asked)
-  pub is_script : IsScriptAt files path lines
+  pub is_script : IsScriptAt files path shapes lines
   pub keeps : KeepsCapture known form (Some lines) old new before after

@@ -1,5 +1,5 @@
 -- The operator and the workers of a run.
-use Rattle.std.specs.Prelude.{◌≡◌, ◌+◌, ◌<◌, ◌≤◌, ℕ, List, length}
+use Rattle.std.specs.Prelude.{◌≡◌, ◌+◌, ◌<◌, ◌≤◌, ℕ, Bool, true, false, List, [], length, slice_index_or}
 use Rattle.ap_model.specs.Readings.{Config}
 use Rattle.ap_books.specs.Counts.{none}
 use Rattle.ap_books.specs.Holdings.{Holding, HasParts, sum_of}
@@ -13,7 +13,9 @@ use Rattle.ap_live.specs.Opening.{parts_in_all}
 use Rattle.ap_live.specs.Tokens.{Operator, IsOperator, Worker, IsWorker}
 use Rattle.ap_live.specs.declared.tagged.Tagged.{Tagged}
 use Rattle.versions.specs.Lists.{Beginning}
+use Rattle.versions.specs.declared.list.Load.{Load}
 use Rattle.apd_run.specs.InForce.{AreInForce}
+use Rattle.ap_queues.specs.Items.{Item}
 use Rattle.ap_queues.specs.Lines.{puts_of}
 use Rattle.ap_queues.specs.declared.lines.passes.LinePasses.{LinePasses}
 use Rattle.apd_run.specs.Dealing.{AreRest}
@@ -48,9 +50,9 @@ pub record IsRunWorker (ap : Live) (w : RunWorker) : Type 0 where
 
 -- An operator's access point, the configuration of its link, and its token, the parts of the ledgers and the pages that it
 -- keeps and how many of each they are, the handles of the queues that are left, of how many items of each worker's queue it
--- took over what became of them, of how many loads it told each worker, what these parts have counted, how many workers have
--- one, what was published, what the workers that came back have counted of the runs of the programs in force, the files of
--- programs, and what the verifier or a check may do for each program.
+-- took over what became of them, of how many loads it told each worker, which workers are settled, what these parts have
+-- counted, how many workers have one, what was published, what the workers that came back have counted of the runs of the
+-- programs in force, the files of programs, and what the verifier or a check may do for each program.
 pub record RunOperator (F : Type 0) : Type 0 where
   pub ap : Live
   pub config : Config
@@ -61,12 +63,18 @@ pub record RunOperator (F : Type 0) : Type 0 where
   pub passes : LinePasses
   pub taken : List ℕ
   pub told : List ℕ
+  pub settled : List Bool
   pub totals : Totals
   pub workers : ℕ
   pub loads : Beginning
   pub programs : ProgramCounts
   pub files : F
   pub limits : Limits
+
+-- with a worker that is settled: as many items were taken over as were put into its queue, and it was told of all loads
+pub record AreSettled (settled : List Bool) (taken told : List ℕ) (puts : List (List Item)) (loads : List Load) : Type 0 where
+  pub all_taken : (worker : ℕ) → slice_index_or settled worker false ≡ true → slice_index_or taken worker 0 ≡ length (slice_index_or puts worker [])
+  pub all_told : (worker : ℕ) → slice_index_or settled worker false ≡ true → slice_index_or told worker 0 ≡ length loads
 
 -- Its token belongs to this access point, whose only operator it is, and has one part of each ledger, which has counted
 -- nothing. The operator keeps, or the workers have, all other parts.
@@ -84,6 +92,7 @@ pub record IsRunOperator {F : Type 0} (shares : ℕ) (ap : Live) (o : RunOperato
   pub list_is : o.loads.list ≡ ap.list.list
   pub reads : Reads o.totals (sum_of o.hoard)
   pub in_force : AreInForce o.programs o.loads.loads
+  pub are_settled : AreSettled o.settled o.taken o.told (puts_of o.token.lines) o.loads.loads
 
 -- what an operator works with, where this is known of its files, and what it has done
 abbrev pub work_of : {F : Type 0} → (F → Held) → RunOperator F → Work

@@ -1,5 +1,5 @@
 -- What an operator works with, and what it has done so far.
-use Rattle.std.specs.Prelude.{◌≡◌, ◌+◌, ◌<◌, ℕ, List, Option, Some, None, length, slice_index_or, slice_set}
+use Rattle.std.specs.Prelude.{◌≡◌, ◌+◌, ◌<◌, ℕ, List, Option, Some, None, [], length, slice_index_or, slice_set}
 use Rattle.std.specs.List.{All}
 use mathlib.Core.List.{IsPrefix}
 use Rattle.bpf_regions.specs.declared.hooks.Hook.{Hook}
@@ -110,6 +110,11 @@ pub record Takes (old new : Work) (reports : List Report) : Type 0 where
   pub holds : (s : ℕ) → s < 8 → IsHistory s new.config (new.histories s)
   pub sees : Sees (with_told (with_taken old worker (length events)) worker) new
 
+-- what became of all that was put into each worker's queue was taken over, and each worker was told of all loads
+pub record NoneLeft (w : Work) : Type 0 where
+  pub all_taken : (worker : ℕ) → worker < length w.puts → slice_index_or w.taken worker 0 ≡ length (slice_index_or w.puts worker [])
+  pub all_told : (worker : ℕ) → worker < length w.puts → slice_index_or w.told worker 0 ≡ length w.loads.loads
+
 -- what is said of an operator of a live access point
 abbrev pub live : Semantics
 live = record {
@@ -118,4 +123,5 @@ live = record {
   Puts = λ old new line e shard. new ≡ put_at old line e shard;
   Takes = λ old new reports. Takes old new reports;
   Sees = λ old new. Sees old new;
+  NoneLeft = λ work. NoneLeft work;
 }

@@ -3,6 +3,7 @@
 ghost use Rattle.std.specs.Prelude.{◌≡◌, ◌+◌, ◌≤◌, vec_len, IfOk, OnOk};
 ghost use Rattle.std.specs.List.{All};
 ghost use Rattle.ap_books.specs.Counts.{none};
+ghost use Rattle.bpf_helpers.specs.Hooked.{shapes_of};
 ghost use Rattle.ap_live.specs.Counting.{counted_by};
 ghost use Rattle.ap_live.specs.Opening.{parts_in_all};
 ghost use Rattle.ap_live.specs.Tokens.{AreLeft, IsWorker};
@@ -64,6 +65,7 @@ fn give_rights<B: Ledgers + Journals>(
     ensures rest { OnOk result (AreRest ap.new left.new.passes) }
     ensures list { ap.new.list ≡ ap.old.list }
     ensures queues { ap.new.queues ≡ ap.old.queues }
+    ensures maps { shapes_of ap.new.stock.maps ≡ shapes_of ap.old.stock.maps }
 {
     newcomers_law();
     tokens_law();
@@ -111,6 +113,7 @@ pub(crate) fn deal<B: Ledgers + Journals>(
     ensures many { IfOk result (λ h. vec_len h.workers ≡ count) }
     ensures list { ap.new.list ≡ ap.old.list }
     ensures queues { ap.new.queues ≡ ap.old.queues }
+    ensures maps { shapes_of ap.new.stock.maps ≡ shapes_of ap.old.stock.maps }
 {
     let mut left = left;
     let rights = match give_rights(ap, alloc, &mut left, count) {

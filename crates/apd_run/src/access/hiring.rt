@@ -2,6 +2,7 @@
 
 ghost use Rattle.std.specs.Prelude.{◌≡◌, ◌+◌, vec_len, IfOk};
 ghost use Rattle.std.specs.List.{All};
+ghost use Rattle.bpf_helpers.specs.Hooked.{shapes_of};
 ghost use Rattle.ap_live.specs.Counting.{counted_by};
 ghost use Rattle.ap_live.specs.Tokens.{AreLeft, IsWorker};
 ghost use Rattle.ap_queues.specs.Lines.{HaveMade};
@@ -32,6 +33,7 @@ pub(crate) fn hire<B: Ledgers + Journals>(
     ensures counted { IfOk result (λ _. counted_by left.new.shards ≡ counted_by left.old.shards) }
     ensures list { ap.new.list ≡ ap.old.list }
     ensures queues { ap.new.queues ≡ ap.old.queues }
+    ensures maps { shapes_of ap.new.stock.maps ≡ shapes_of ap.old.stock.maps }
 {
     newcomers_law();
     tokens_law();

@@ -1,6 +1,6 @@
 //! The operator of a run.
 
-ghost use Rattle.std.specs.Prelude.{◌≡◌, ◌+◌, ◌<◌, [], length, map, slice_index_or, slice_set, IfOk, IfSome, None, OnErr, OnOk, Some};
+ghost use Rattle.std.specs.Prelude.{◌≡◌, ◌+◌, ◌<◌, [], false, true, length, map, slice_index_or, slice_set, IfOk, IfSome, IsTrue, None, OnErr, OnOk, Some};
 ghost use Rattle.ap_books.specs.Counts.{none};
 ghost use Rattle.ap_books.specs.Reading.{Reads};
 ghost use Rattle.ap_live.specs.Counting.{counted_by, tally};
@@ -46,8 +46,9 @@ pub(crate) struct Sources<'a, F> {
 }
 
 /// The operator of a run: its token, the parts of the ledgers, the pages and the handles of queues that no worker has, of
-/// how many items of each worker's queue it took over what became of them, of how many loads it told each worker, what these
-/// parts have counted, what was counted of the programs in force, and their sources. Contracts see all of it.
+/// how many items of each worker's queue it took over what became of them, of how many loads it told each worker, with which
+/// workers nothing was left to take over or to tell since then, what these parts have counted, what was counted of the
+/// programs in force, and their sources. Contracts see all of it.
 #[derive(Drop)]
 pub struct LiveOperator<'a, B: Ledgers + Journals, L: Names, F: Files> {
     pub(crate) ap: &'a LiveAp<B>,
@@ -58,6 +59,7 @@ pub struct LiveOperator<'a, B: Ledgers + Journals, L: Names, F: Files> {
     pub(crate) passes: LinePasses,
     pub(crate) taken: [u64; 8],
     pub(crate) told: [u64; 8],
+    pub(crate) settled: [bool; 8],
     pub(crate) totals: Totals,
     pub(crate) workers: u64,
     pub(crate) loads: &'a mut Loads,
@@ -81,6 +83,7 @@ impl<'a, B: Ledgers + Journals, L: Names, F: Files> Model for LiveOperator<'a, B
       passes = o.passes;
       taken = o.taken;
       told = o.told;
+      settled = o.settled;
       totals = o.totals;
       workers = o.workers;
       loads = o.loads.now;
@@ -99,6 +102,7 @@ impl<'a, B: Ledgers + Journals, L: Names, F: Files> Model for LiveOperator<'a, B
       passes = o.passes;
       taken = o.taken;
       told = o.told;
+      settled = o.settled;
       totals = o.totals;
       workers = o.workers;
       loads = o.loads.now;
@@ -115,6 +119,7 @@ impl<'a, B: Ledgers + Journals, L: Names, F: Files> LiveOperator<'a, B, L, F> {
             (Load hook path.now) (Some result) }
         ensures nothing { told_counts result ≡ none }
     {
+        self.settled = [false; 8];
         let limits = self.sources.limits;
         let files = &mut *self.sources.files;
         let told = self.loads.load(rt, files, hook, path_of_word(path), limits);
@@ -128,6 +133,7 @@ impl<'a, B: Ledgers + Journals, L: Names, F: Files> LiveOperator<'a, B, L, F> {
             (Adopt hook path.now certificate.now) (Some result) }
         ensures nothing { told_counts result ≡ none }
     {
+        self.settled = [false; 8];
         let work = self.sources.limits.work;
         let files = &mut *self.sources.files;
         let adoption = Adoption {
@@ -144,6 +150,7 @@ impl<'a, B: Ledgers + Journals, L: Names, F: Files> LiveOperator<'a, B, L, F> {
         ensures does { Does (work_of F.held self.old) (work_of F.held self.new) (Unload hook) result }
         ensures nothing { IfSome result (λ told. told_counts told ≡ none) }
     {
+        self.settled = [false; 8];
         match self.loads.unload(rt, hook) {
             Ok(()) => {
                 self.programs.put(hook, None);
@@ -243,12 +250,13 @@ impl<'a, B: Ledgers + Journals, L: Names, F: Files> LiveOperator<'a, B, L, F> {
     }
 
     /// Takes over a worker's counts, also those of the runs of its programs, gives it fresh parts of the ledgers, and
-    /// returns what became of its events: of the next items of its queue. Err: it gave another number of them than was
-    /// taken over, which can't happen.
+    /// returns what became of its events: of all items of its queue that are left. Err: it gave another number of them than
+    /// was taken over, which can't happen.
     fn exchange<G: Drop>(
         &mut self,
         worker: &mut LiveWorker<'a, B, L, G>,
     ) -> Result<Vec<Tagged>, AllocError>
+        requires took { TookAllOf (work_of F.held self.old).puts worker.old.token }
         ensures crew { IfOk result (λ handled. crew_of F.held self.new
             ≡ gains (claims (crew_of F.held self.old) worker.old.number (length handled.items))
             (tally handled.items)) }
@@ -284,6 +292,8 @@ impl<'a, B: Ledgers + Journals, L: Names, F: Files> LiveOperator<'a, B, L, F> {
     /// Tells a worker of the loads so far. Err: it was told of another number of them than was noted, which can't happen.
     fn tell<G: Drop>(&mut self, worker: &mut LiveWorker<'a, B, L, G>) -> Result<(), AllocError>
         requires nothing { worker.old.handled ≡ [] }
+        requires whole { slice_index_or (work_of F.held self.old).taken worker.old.number 0
+            ≡ length (slice_index_or (work_of F.held self.old).puts worker.old.number []) }
         ensures crew { OnOk result (crew_of F.held self.new
             ≡ tells (crew_of F.held self.old) worker.old.number) }
         ensures agrees { OnOk result (slice_index_or (work_of F.held self.old).told
@@ -292,6 +302,7 @@ impl<'a, B: Ledgers + Journals, L: Names, F: Files> LiveOperator<'a, B, L, F> {
     {
         let count = self.loads.count();
         note(&mut self.told, worker.number, worker.told, count)?;
+        self.settled[worker.number] = true;
         worker.told = count;
         let news = self.loads.tell();
         worker.ap.learn(&mut worker.token, news);
@@ -365,6 +376,19 @@ fn note(noted: &mut [u64; 8], worker: usize, old: u64, new: u64) -> Result<(), A
     Ok(())
 }
 
+/// Whether so many flags, from the first on, are set.
+fn are_set(flags: &[bool; 8], count: usize) -> bool
+    ensures each { IsTrue result →
+        (at : _) → at < count → slice_index_or flags.now at false ≡ true }
+{
+    for at in 0..count {
+        if at >= flags.len() || !flags[at] {
+            return false;
+        }
+    }
+    true
+}
+
 /// The part of an event that is still to be submitted.
 fn waiting_for(unserved: Unserved) -> Waiting
     ensures is { result ≡ record { event = unserved.event; shard = unserved.shard } }
@@ -386,6 +410,7 @@ impl<'a, B: Ledgers + Journals, L: Names, F: Files, G: Drop> Operating<LiveWorke
     ghost taken = { λ w. counted_by w.token.shards };
 
     fn submit<R: Wait>(&mut self, rt: &R, line: u64, event: Event) -> Result<(), Waiting> {
+        self.settled = [false; 8];
         match self.ap.submit(rt, &mut *self.token, line, event) {
             Ok(()) => return Ok(()),
             Err(unserved) => return Err(waiting_for(unserved)),
@@ -393,6 +418,7 @@ impl<'a, B: Ledgers + Journals, L: Names, F: Files, G: Drop> Operating<LiveWorke
     }
 
     fn go_on<R: Wait>(&mut self, rt: &R, line: u64, waiting: Waiting) -> Result<(), Waiting> {
+        self.settled = [false; 8];
         let Waiting { event, shard } = waiting;
         match event {
             Event::Tick(units) => {
@@ -468,6 +494,14 @@ impl<'a, B: Ledgers + Journals, L: Names, F: Files, G: Drop> Operating<LiveWorke
         self.tell(worker)?;
         report_all(reports, handled)?;
         Ok(())
+    }
+
+    fn find_none_left(&self) -> Result<(), AllocError> {
+        if are_set(&self.settled, self.ap.workers()) {
+            Ok(())
+        } else {
+            Err(AllocError)
+        }
     }
 
     fn dismiss(&mut self, worker: LiveWorker<'a, B, L, G>) {

@@ -12,7 +12,7 @@ ghost use Rattle.apd_run.specs.Dealing.{AreHands, AreNumberedFrom, AreRest, IsNe
 ghost use Rattle.apd_run.specs.Hands.{crew_of};
 ghost use Rattle.apd_driver.specs.Captures.{KeepsWhole};
 ghost use Rattle.apd_driver.specs.Shows.{IsBroken};
-ghost use Rattle.apd_run.specs.NewRuns.{IsNewCrew, RunsNew};
+ghost use Rattle.apd_run.specs.NewRuns.{IsNewCrew, RunsNew, plan_at};
 
 use crate::access::hands::{Hands, Kept, deal};
 use crate::access::naming::Names;
@@ -131,8 +131,8 @@ where
     requires list { loads.old.list ≡ L.ap.list.list }
     requires no_loads { loads.old.loads ≡ [] }
     ensures workers { (crew_of F.held result).workers ≡ workers }
-    ensures new { IsNewCrew (F.held sources.entry.files.now) sources.entry.limits B.config
-        (crew_of F.held result) }
+    ensures new { IsNewCrew (F.held sources.entry.files.now) sources.entry.limits
+        (plan_at B.config ap.now) (crew_of F.held result) }
 {
     let Kept {
         token,
@@ -149,6 +149,7 @@ where
         passes,
         taken: [0; 8],
         told: [0; 8],
+        settled: [false; 8],
         totals: Totals::new(),
         workers,
         loads,
@@ -186,8 +187,8 @@ where
     requires named { ap.now ≡ L.ap }
     requires loads { equipment.loads.list ≡ L.ap.list.list }
     requires no_loads { equipment.loads.loads ≡ [] }
-    ensures runs { RunsNew (F.held supplies.entry.files.now) supplies.entry.limits B.config
-        (P.manner writer) (S.script lines) (P.contents writer) (P.contents result.0) result.1 }
+    ensures runs { RunsNew (F.held supplies.entry.files.now) supplies.entry.limits
+        (plan_at B.config ap.now) (P.manner writer) (S.script lines) (P.contents writer) (P.contents result.0) result.1 }
     ensures keeps { result.1 < 2 → KeepsWhole (P.manner writer).form (S.script lines)
         (P.contents writer) (P.contents result.0)
         (P.recorded writer) (P.recorded result.0) }
@@ -245,7 +246,7 @@ where
     requires config { opening.settings.link ≡ B.config }
     requires shares { B.shares ≡ parts_in_all }
     ensures runs { RunsNew (F.held supplies.entry.files.now) supplies.entry.limits
-        opening.settings.link (P.manner writer) (S.script lines)
+        (record { link = opening.settings.link; maps = opening.settings.shapes }) (P.manner writer) (S.script lines)
         (P.contents writer) (P.contents result.0) result.1 }
     ensures keeps { result.1 < 2 → KeepsWhole (P.manner writer).form (S.script lines)
         (P.contents writer) (P.contents result.0)

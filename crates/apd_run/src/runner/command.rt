@@ -5,7 +5,7 @@ ghost use Rattle.apd_driver.specs.Captures.{KeepsWhole};
 ghost use Rattle.apd_driver.specs.Capturing.{AreKnown, Begins};
 ghost use Rattle.apd_driver.specs.Shows.{IsBroken};
 ghost use Rattle.apd_run.specs.Captured.{KeepsCapture, KeepsScript};
-ghost use Rattle.apd_run.specs.NewRuns.{IsConfigurationAt, RunsInput, RunsNew, RunsScript, link_of};
+ghost use Rattle.apd_run.specs.NewRuns.{IsConfigurationAt, RunsInput, RunsNew, RunsScript, plan_of};
 
 use crate::access::{NewShards, Opening, Supplies, run_live};
 use crate::progress::Watcher;
@@ -90,7 +90,7 @@ where
     requires some { 1 ≤ workers }
     requires few { workers ≤ 8 }
     ensures runs { RunsNew (F.held supplies.entry.files.now) supplies.entry.limits
-        (link_of task.configuration) (P.manner writer) (L.script task.lines)
+        (plan_of task.configuration) (P.manner writer) (L.script task.lines)
         (P.contents writer) (P.contents result.0) result.1 }
     ensures keeps { result.1 < 2 → KeepsWhole (P.manner writer).form (L.script task.lines)
         (P.contents writer) (P.contents result.0)
@@ -149,7 +149,7 @@ where
     P: Recording + Drop,
     E: Write,
     ensures runs { RunsNew (F.held supplies.entry.files.now) supplies.entry.limits
-        (link_of task.configuration) words.entry.manner (L.script task.lines)
+        (plan_of task.configuration) words.entry.manner (L.script task.lines)
         (P.contents out) (P.contents result.0) result.1 }
     ensures keeps { result.1 < 2 → KeepsWhole words.entry.manner.form (L.script task.lines)
         (P.contents out) (P.contents result.0)

@@ -1,4 +1,5 @@
 use Rattle.std.proofs.Common.{◌∙◌, arith, sym}
+use Rattle.bpf_helpers.proofs.Keeping.{shapes_kept}
 use Rattle.ap_live.specs.Tokens.{IsWorker}
 use Rattle.apd_run.specs.Dealing.{IsNewWorker}
 use Rattle.apd_run.proofs.Deciding.{new_unowned}
@@ -30,4 +31,5 @@ loop-number-preserved g c =
       counted = given_none stock c.worker.new.left.shards given.shards ∙ c.loop-number.invariant.counted;
       list = c.worker.ensures.keeps.list ∙ c.loop-number.invariant.list;
       queues = c.worker.ensures.keeps.queues ∙ c.loop-number.invariant.queues;
+      maps = shapes_kept a.stock.maps b.stock.maps c.worker.ensures.keeps.tables ∙ c.loop-number.invariant.maps;
     }

@@ -1,5 +1,6 @@
 use Rattle.std.proofs.Common.{◌≡◌, ◌+◌, vec_len}
 use Rattle.std.specs.List.{All}
+use Rattle.bpf_helpers.specs.Hooked.{shapes_of}
 use Rattle.ap_queues.specs.Lines.{HaveMade}
 use Rattle.ap_live.specs.Counting.{counted_by}
 use Rattle.ap_live.specs.Tokens.{AreLeft, IsWorker}
@@ -20,4 +21,5 @@ invariant-loop-number g l =
       counted : counted_by l.left.shards ≡ counted_by l.initial.left.shards;
       list : l.ap.list ≡ l.initial.ap.list;
       queues : l.ap.queues ≡ l.initial.ap.queues;
+      maps : shapes_of l.ap.stock.maps ≡ shapes_of l.initial.ap.stock.maps;
     }

@@ -12,7 +12,7 @@ invariant_of-push_reserved g c =
     let own = All-pop (IsWorker c.args.ap.now) c.tokens.tokens.items c.pop.new.self.items (Some c.in-Some.token) c.in-Some.ensures.items c.tokens.invariant.own in
     let new = All-pop IsNewWorker c.tokens.tokens.items c.pop.new.self.items (Some c.in-Some.token) c.in-Some.ensures.items c.tokens.invariant.new_workers in
     let last = numbered_less c.tokens.tokens.items c.pop.new.self.items c.in-Some.token c.in-Some.ensures.items c.tokens.invariant.numbered in
-    record { own = own.1; number_is = c.len-number.ensures ∙ (c.pop.new.self.ok.0 ∙ sym last.1); ap_is = c.requires.named; parts = new.1.parts; counts = nothing_counted _ _ new.1.nothing c.new.ensures.items; accounts = accounts_none _ _ _ (ap length new.1.untaken) c.new.ensures.items new.1.unowned }
+    record { own = own.1; number_is = c.len-number.ensures ∙ (c.pop.new.self.ok.0 ∙ sym last.1); ap_is = c.requires.named; parts = new.1.parts; counts = nothing_counted _ _ new.1.nothing c.new.ensures.items; accounts = accounts_none _ _ _ _ (ap length new.1.untaken) c.new.ensures.items new.1.unowned; learned = omega arith }
 
 pub invariant_of-push_reserved-in-Some : goal.invariant_of-push_reserved-in-Some
 invariant_of-push_reserved-in-Some g c =

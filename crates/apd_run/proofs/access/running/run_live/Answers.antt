@@ -1,4 +1,4 @@
-use Rattle.std.proofs.Common.{sym}
+use Rattle.std.proofs.Common.{sym, ◌∙◌}
 use Rattle.apd_run.specs.NewRuns.{NotBegun}
 use Rattle.apd_run.proofs.Captured.{if_low}
 use Rattle.apd_run.proofs.NewRuns.{runs_under}
@@ -19,4 +19,4 @@ returns-in_default-deal g c =
     }
 
 pub returns : goal.returns
-returns g c = record { runs = runs_under _ (sym c.requires.config) c.run_with.ensures.runs; keeps = c.run_with.ensures.keeps }
+returns g c = record { runs = runs_under _ (sym c.requires.config) (c.in_default-deal.ensures.maps ∙ c.in_default.ensures.maps) c.run_with.ensures.runs; keeps = c.run_with.ensures.keeps }

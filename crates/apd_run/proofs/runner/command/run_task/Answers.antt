@@ -8,4 +8,4 @@ pub returns-in_default : goal.returns-in_default
 returns-in_default g c = record { runs = NotBegun _ refl (inr refl); keeps = if_low _ (inr refl) }
 
 pub returns : goal.returns
-returns g c = record { runs = runs_under _ c.settings.ensures.link c.run_live.ensures.runs; keeps = c.run_live.ensures.keeps }
+returns g c = record { runs = runs_under _ c.settings.ensures.link c.settings.ensures.shapes c.run_live.ensures.runs; keeps = c.run_live.ensures.keeps }

@@ -14,8 +14,8 @@ use Rattle.apd_run.specs.Hands.{RunOperator, RunWorker, claims, crew_of, work_of
 use Rattle.apd_run.specs.InForce.{AreInForce, with_counts}
 use Rattle.apd_run.specs.declared.access.program_counts.ProgramCounts.{ProgramCounts}
 use Rattle.apd_run.proofs.Budgeting.{counted_in_force}
-use Rattle.apd_run.proofs.Deciding.{renewed_unowned}
-use Rattle.apd_run.proofs.Keeping.{other_notes, other_parts}
+use Rattle.apd_run.proofs.Deciding.{all_taken, renewed_unowned}
+use Rattle.apd_run.proofs.Keeping.{other_parts, settled_taken}
 use Rattle.apd_run.proofs.Operated.{claimed_crew}
 use Rattle.apd_run.proofs.Sums.{exchanged_parts, exchanged_sum, fresh, more_than_one}
 use Rattle.apd_run.proofs.access.operator.LiveOperator.exchange.Goals as goal
@@ -29,9 +29,6 @@ renew-counted-requires g c = fresh c.split_off-fresh.result c.split_off-fresh.en
 
 pub returns-clause-worker : goal.returns-clause-worker
 returns-clause-worker g c = ap sum_of c.renew-counted.ensures.taken ∙ c.split_off-fresh.ensures.none
-
-pub invariant_of-self : goal.invariant_of-self
-invariant_of-self g c = other_notes _ _ _ c.claim.new.taken _ c.self.invariant
 
 pub invariant_of-self-2 : goal.invariant_of-self-2
 invariant_of-self-2 g c =
@@ -59,6 +56,7 @@ invariant_of-self-2 g c =
       shares_are = i.shares_are;
       some = i.some;
       list_is = i.list_is;
+      are_settled = settled;
       in_force = subst (λ (p : ProgramCounts). AreInForce p c.self.inside.loads.now.loads) (sym programs) (counted_in_force c.self.inside.programs c.take_counts-runs.result c.self.inside.loads.now.loads i.in_force);
       reads = subst (Reads c.and-self-inside.result) (sym counted) (c.and-self-inside.ensures _ _ i.reads numbers);
     }

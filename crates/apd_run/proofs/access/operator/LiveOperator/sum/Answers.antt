@@ -5,7 +5,8 @@ use Rattle.apd_run.proofs.Operated.{sum_does, sums_nothing, works}
 use Rattle.apd_run.proofs.access.operator.LiveOperator.sum.Goals as goal
 
 pub invariant_of-self : goal.invariant_of-self
-invariant_of-self g c = other_token _ _ _ _ c.sum-value.ensures.own (ap (λ (o : Operator). o.shards) c.sum-value.ensures.same ∙ ap (λ (o : Operator). o.shards) c.deref_mut.ensures.value) c.self.invariant
+invariant_of-self g c = other_token _ _ _ _ c.sum-value.ensures.own (ap (λ (o : Operator). o.shards) c.sum-value.ensures.same ∙ ap (λ (o : Operator). o.shards) c.deref_mut.ensures.value)
+    (ap (λ (o : Operator). o.lines) c.sum-value.ensures.same ∙ ap (λ (o : Operator). o.lines) c.deref_mut.ensures.value) c.self.invariant
 
 pub returns-clause-works : goal.returns-clause-works
 returns-clause-works g c = works g.F.Files.held _ _ _ c.self.view_is

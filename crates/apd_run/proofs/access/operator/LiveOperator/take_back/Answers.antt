@@ -33,5 +33,6 @@ invariant_of-self g c =
       some = omega (arith, i.some);
       list_is = i.list_is;
       in_force = i.in_force;
+      are_settled = i.are_settled;
       reads = subst (Reads c.self.inside.totals) (sym counted) i.reads;
     }

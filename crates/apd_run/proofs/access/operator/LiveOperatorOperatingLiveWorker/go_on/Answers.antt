@@ -1,22 +1,22 @@
 use Rattle.std.proofs.Common.{ap, refl, ◌∙◌}
 use Rattle.ap_live.specs.Tokens.{Operator}
-use Rattle.apd_run.proofs.Keeping.{other_token}
+use Rattle.apd_run.proofs.Keeping.{put_token}
 use Rattle.apd_run.proofs.Operated.{no_such_shard, put_there, put_tick, starts_there, waits_there, waits_tick, works, works_same}
 use Rattle.apd_run.proofs.access.operator.LiveOperatorOperatingLiveWorker.go_on.Goals as goal
 
 pub invariant_of-self : goal.invariant_of-self
-invariant_of-self g c = other_token _ _ _ _ c.submit_at.ensures.own (ap (λ (o : Operator). o.shards) c.submit_at.ensures.same ∙ ap (λ (o : Operator). o.shards) c.deref_mut.ensures.value) c.self.invariant
+invariant_of-self g c = put_token _ _ _ _ c.submit_at.ensures.own (ap (λ (o : Operator). o.shards) c.submit_at.ensures.same ∙ ap (λ (o : Operator). o.shards) c.deref_mut.ensures.value) c.self.invariant
 
 pub invariant_of-self-in-Err : goal.invariant_of-self-in-Err
-invariant_of-self-in-Err g c = other_token _ _ _ _ c.submit_at.ensures.own (ap (λ (o : Operator). o.shards) c.submit_at.ensures.same ∙ ap (λ (o : Operator). o.shards) c.deref_mut.ensures.value) c.self.invariant
+invariant_of-self-in-Err g c = put_token _ _ _ _ c.submit_at.ensures.own (ap (λ (o : Operator). o.shards) c.submit_at.ensures.same ∙ ap (λ (o : Operator). o.shards) c.deref_mut.ensures.value) c.self.invariant
 
 pub invariant_of-self-in-Ok-submit : goal.invariant_of-self-in-Ok-submit
 invariant_of-self-in-Ok-submit g c =
-    other_token _ _ _ _ c.submit.ensures.own (ap (λ (o : Operator). o.shards) c.submit.ensures.same ∙ ap (λ (o : Operator). o.shards) c.deref_mut-in_default.ensures.value) c.self.invariant
+    put_token _ _ _ _ c.submit.ensures.own (ap (λ (o : Operator). o.shards) c.submit.ensures.same ∙ ap (λ (o : Operator). o.shards) c.deref_mut-in_default.ensures.value) c.self.invariant
 
 pub invariant_of-self-in-Err-submit : goal.invariant_of-self-in-Err-submit
 invariant_of-self-in-Err-submit g c =
-    other_token _ _ _ _ c.submit.ensures.own (ap (λ (o : Operator). o.shards) c.submit.ensures.same ∙ ap (λ (o : Operator). o.shards) c.deref_mut-in_default.ensures.value) c.self.invariant
+    put_token _ _ _ _ c.submit.ensures.own (ap (λ (o : Operator). o.shards) c.submit.ensures.same ∙ ap (λ (o : Operator). o.shards) c.deref_mut-in_default.ensures.value) c.self.invariant
 
 pub returns-then-shard-ge8 : goal.returns-then-shard-ge8
 returns-then-shard-ge8 g c =

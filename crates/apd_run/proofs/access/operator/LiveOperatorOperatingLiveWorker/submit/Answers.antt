@@ -1,11 +1,11 @@
 use Rattle.std.proofs.Common.{ap, ◌∙◌}
 use Rattle.ap_live.specs.Tokens.{Operator}
-use Rattle.apd_run.proofs.Keeping.{other_token}
+use Rattle.apd_run.proofs.Keeping.{put_token}
 use Rattle.apd_run.proofs.Operated.{put_all, waits_all, works}
 use Rattle.apd_run.proofs.access.operator.LiveOperatorOperatingLiveWorker.submit.Goals as goal
 
 pub invariant_of-self-in-Err : goal.invariant_of-self-in-Err
-invariant_of-self-in-Err g c = other_token _ _ _ _ c.submit.ensures.own (ap (λ (o : Operator). o.shards) c.submit.ensures.same ∙ ap (λ (o : Operator). o.shards) c.deref_mut.ensures.value) c.self.invariant
+invariant_of-self-in-Err g c = put_token _ _ _ _ c.submit.ensures.own (ap (λ (o : Operator). o.shards) c.submit.ensures.same ∙ ap (λ (o : Operator). o.shards) c.deref_mut.ensures.value) c.self.invariant
 
 pub returns-in-Ok : goal.returns-in-Ok
 returns-in-Ok g c =
