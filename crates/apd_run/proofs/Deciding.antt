@@ -28,7 +28,7 @@ use Rattle.ap_live.proofs.Growing.{by_shard}
 use Rattle.ap_live.specs.Verdicts.{AreJudged}
 use Rattle.versions.specs.declared.list.Load.{Load}
 use Rattle.versions.specs.Sets.{set_of}
-use Rattle.versions.specs.Lists.{Beginning, Begins}
+use Rattle.versions.specs.Lists.{Beginning}
 use Rattle.versions.proofs.Beginnings.{prefix_length, prefix_self, prefix_trans}
 use Rattle.ap_queues.specs.Items.{Item}
 use Rattle.ap_queues.specs.Lines.{puts_of}

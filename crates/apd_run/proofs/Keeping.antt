@@ -134,6 +134,13 @@ told_operator {F} shares place o b told settled same settled_now h =
       are_settled = settled_now;
     })
 
+-- the same with the same notes
+pub same_taken : {F : Type 0} → (shares : ℕ) (place : Live) (o : RunOperator F) (taken : List ℕ) → taken ≡ o.taken → IsRunOperator shares place o → IsRunOperator shares place (record o { taken = taken })
+same_taken shares place o taken same h = subst (λ (l : List ℕ). IsRunOperator shares place (record o { taken = l })) (sym same) h
+
+pub same_told : {F : Type 0} → (shares : ℕ) (place : Live) (o : RunOperator F) (told : List ℕ) → told ≡ o.told → IsRunOperator shares place o → IsRunOperator shares place (record o { told = told })
+same_told shares place o told same h = subst (λ (l : List ℕ). IsRunOperator shares place (record o { told = l })) (sym same) h
+
 -- the same with the same loads
 pub same_loads : {F : Type 0} → (shares : ℕ) (place : Live) (o : RunOperator F) (b : Beginning) → b ≡ o.loads → IsRunOperator shares place o → IsRunOperator shares place (record o { loads = b })
 same_loads shares place o b same h = subst (λ (x : Beginning). IsRunOperator shares place (record o { loads = x })) (sym same) h

@@ -1,5 +1,5 @@
 -- What an operator's calls do to what contracts see of it.
-use Rattle.std.proofs.Common.{◌≡◌, ◌+◌, ◌-◌, ◌<◌, ◌≤◌, ℕ, zero, suc, List, Option, Some, None, refl, slice_set, sym, ap, subst, ◌∙◌, arith, add-zero}
+use Rattle.std.proofs.Common.{◌≡◌, ◌+◌, ◌-◌, ◌<◌, ◌≤◌, ℕ, zero, suc, Bool, List, Option, Some, None, length, refl, slice_set, sym, ap, subst, ◌∙◌, arith, add-zero}
 use Rattle.std.specs.Prelude.{slice_index_or}
 use Rattle.bpf_regions.specs.declared.hooks.Hook.{Hook}
 use Rattle.versions.specs.Lists.{Beginning, with_load}
@@ -15,7 +15,7 @@ use Rattle.ap_queues.specs.Putting as queue
 use Rattle.ap_queues.specs.Refusing.{StopsAt}
 use Rattle.ap_queues.specs.declared.lines.fault.Unserved.{Unserved}
 use Rattle.ap_queues.specs.declared.queue.EventQueue.{EventQueue}
-use Rattle.ap_shards.specs.Tokens.{Eight, KeepOwn}
+use Rattle.ap_shards.specs.Tokens.{KeepOwn}
 use Rattle.ap_live.specs.Tokens.{Operator}
 use Rattle.apd_script.specs.Asked.{Load, Adopt, Read, Store, Sum, Unload}
 use Rattle.apd_script.specs.declared.command.MapWord.{MapWord}
@@ -31,10 +31,9 @@ use Rattle.apd_driver.specs.declared.actions.Publication.{Publication}
 use Rattle.apd_driver.specs.declared.actions.WordUse.{WordUse}
 use Rattle.apd_driver.specs.declared.operating.Waiting.{Waiting}
 use Rattle.apd_run.specs.Adopting.{AdoptsFiles}
-use Rattle.apd_run.specs.Hands.{RunOperator, claims, crew_of, work_of}
+use Rattle.apd_run.specs.Hands.{RunOperator, claims, crew_of, tells, work_of}
 use Rattle.apd_run.specs.Loading.{LoadsFile}
 use Rattle.apd_files.specs.Held.{Held, path_of}
-use Rattle.apd_run.specs.Deciding.{histories_of}
 use Rattle.apd_run.specs.Words.{IsRead, IsStored, IsSummed, NoneRead, NoneStored, NoneSummed}
 use Rattle.apd_run.specs.Work.{Does, Sees, Work, live, with_loads, with_seats}
 use Rattle.apd_run.specs.Work as work
@@ -252,6 +251,13 @@ module _ {F : Type 0} (held : F → Held) where
   -- loads that were told
   pub told_crew : (o old : RunOperator F) (b : Beginning) → o ≡ old → b ≡ o.loads → crew_of held (record o { loads = b }) ≡ crew_of held old
   told_crew o old b is same = ap (λ (x : Beginning). crew_of held (record o { loads = x })) same ∙ ap (crew_of held) is
+
+  -- a worker was told of all loads
+  pub tells_crew : (o old : RunOperator F) (b : Beginning) (told : List ℕ) (settled : List Bool) (number number2 count : ℕ) → o ≡ old → b ≡ o.loads → number ≡ number2 → count ≡ length o.loads.loads → told ≡ slice_set o.told number count
+      → crew_of held (record o { loads = b; told = told; settled = settled }) ≡ tells (crew_of held old) number2
+  tells_crew o old b told settled number number2 count is same number_is count_is note =
+      ap (λ (x : Beginning). crew_of held (record o { loads = x; told = told; settled = settled })) same
+      ∙ (ap (λ (l : List ℕ). crew_of held (record o { told = l; settled = settled })) (note ∙ (λ i. slice_set o.told (number_is i) (count_is i))) ∙ ap (λ (x : RunOperator F). tells (crew_of held x) number2) is)
 
   -- counts were taken over, and what became of events
   pub claimed_crew : (o old : RunOperator F) (hoard : Holding) (counted : Counts) (taken : List ℕ) (number many : ℕ) → o ≡ old → sum_of hoard ≡ plus (sum_of o.hoard) counted

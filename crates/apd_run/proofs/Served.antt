@@ -16,7 +16,6 @@ use Rattle.apd_driver.specs.Crews.{Collects, Crew, Works, gains, with_work}
 use Rattle.apd_driver.specs.Following.{FromNone, FromOneMore, TakesAll}
 use Rattle.std.specs.List.{All}
 use Rattle.versions.specs.Lists.{Beginning}
-use Rattle.versions.specs.declared.list.Load.{Load}
 use Rattle.apd_run.specs.Deciding.{Accounts, TookAllOf, WasJudged}
 use Rattle.apd_run.specs.Hands.{claims, tells}
 use Rattle.apd_run.specs.Reports.{Handled, Memory, Report}
@@ -109,21 +108,19 @@ pub knew_before : (mid after : Crew live) (worker number many : ℕ) (counts : C
     → slice_index_or mid.work.told worker 0 ≡ was
 knew_before mid after worker number many counts told was claimed is agrees kept = (λ i. slice_index_or ((sym claimed i).work.told) (sym is i) 0) ∙ (agrees ∙ kept)
 
--- an operator that met a worker, and changed nothing more
-pub works_on : (crew mid seen : Crew live) → seen ≡ mid → Works crew mid → Works crew seen
-works_on crew mid seen same h = subst (λ (c : Crew live). Works crew c) (sym same) h
-
-pub meets_on : (crew mid seen : Crew live) (w : Worker) → seen ≡ mid → Meets crew.work mid.work w → Meets crew.work seen.work w
-meets_on crew mid seen w same h = subst (λ (c : Crew live). Meets crew.work c.work w) (sym same) h
-
-pub loads_on : (mid seen : Crew live) (loads : List Load) → seen ≡ mid → IsPrefix loads mid.work.loads.loads → IsPrefix loads seen.work.loads.loads
-loads_on mid seen loads same h = subst (λ (c : Crew live). IsPrefix loads c.work.loads.loads) (sym same) h
+-- the same after what changed nothing more
+pub collects_seen : (crew mid seen crew2 : Crew live) (list list2 : List Report) (given told worker : ℕ) (w : Worker) (tags : List Tagged) → seen ≡ mid → worker ≡ w.number → TookAllOf crew.work.puts w → Works crew mid → Meets crew.work mid.work w
+    → IsPrefix w.seen.loads mid.work.loads.loads → worker < length seen.work.taken → slice_index_or seen.work.taken worker 0 ≡ given → slice_index_or seen.work.told worker 0 ≡ told → Accounts given told w tags
+    → crew2 ≡ gains (with_work seen (with_told (with_taken seen.work worker (length tags)) worker)) (tally tags) → list2 ≡ list ++ reports_in tags → Collects crew crew2 list list2
+collects_seen crew mid seen crew2 list list2 given told worker w tags same number took works m known below agrees knows h counted listed =
+    collects_met crew seen crew2 list list2 given told worker w tags number took (subst (λ (c : Crew live). Works crew c) (sym same) works) (subst (λ (c : Crew live). Meets crew.work c.work w) (sym same) m)
+    (subst (λ (c : Crew live). IsPrefix w.seen.loads c.work.loads.loads) (sym same) known) below agrees knows h counted listed
 
 -- a worker that was met took all that was put
-pub took_met : (crew mid seen : Crew live) (w w2 : Worker) → Meets crew.work mid.work w2 → seen ≡ mid → w2 ≡ record w { shards = w2.shards } → TookAllOf crew.work.puts w → TookAllOf seen.work.puts w2
-took_met crew mid seen w w2 m same still t =
-    let puts : seen.work.puts ≡ crew.work.puts = ap (λ (c : Crew live). c.work.puts) same ∙ ap (λ (x : Work). x.puts) m.sees.others in
-    subst (λ (l : List (List Item)). TookAllOf l w2) (sym puts) (took_still crew.work.puts w w2 still t)
+pub took_met : (work : Work) (mid seen : Crew live) (w w2 : Worker) → Meets work mid.work w2 → seen ≡ mid → w2 ≡ record w { shards = w2.shards } → TookAllOf work.puts w → TookAllOf seen.work.puts w2
+took_met work mid seen w w2 m same still t =
+    let puts : seen.work.puts ≡ work.puts = ap (λ (c : Crew live). c.work.puts) same ∙ ap (λ (x : Work). x.puts) m.sees.others in
+    subst (λ (l : List (List Item)). TookAllOf l w2) (sym puts) (took_still work.puts w w2 still t)
 
 -- then all that was put into its queue was taken over
 pub whole_after : (seen after : Crew live) (worker number given told : ℕ) (counts : Counts) (w : Worker) (tags : List Tagged) → after ≡ gains (claims seen worker (length tags)) counts → number ≡ worker → worker ≡ w.number

@@ -226,7 +226,10 @@ impl<'a, B: Ledgers + Journals, L: Names, F: Files> LiveOperator<'a, B, L, F> {
         let is_empty = self
             .ap
             .meet_alone(&mut worker.token, token, &mut self.passes);
-        if is_empty { Ok(()) } else { Err(AllocError) }
+        if !is_empty {
+            return Err(AllocError);
+        }
+        Ok(())
     }
 
     /// Meets a worker at the published loads: what it has seen of them is a prefix. Does nothing at run time.
@@ -418,7 +421,6 @@ impl<'a, B: Ledgers + Journals, L: Names, F: Files, G: Drop> Operating<LiveWorke
     }
 
     fn go_on<R: Wait>(&mut self, rt: &R, line: u64, waiting: Waiting) -> Result<(), Waiting> {
-        self.settled = [false; 8];
         let Waiting { event, shard } = waiting;
         match event {
             Event::Tick(units) => {
@@ -426,16 +428,20 @@ impl<'a, B: Ledgers + Journals, L: Names, F: Files, G: Drop> Operating<LiveWorke
                     // There is no such shard.
                     return Ok(());
                 }
+                self.settled = [false; 8];
                 let event = Event::Tick(units);
                 match self.ap.submit_at(rt, &mut *self.token, line, event, shard) {
                     Ok(()) => return Ok(()),
                     Err(unserved) => return Err(waiting_for(unserved)),
                 }
             }
-            event => match self.ap.submit(rt, &mut *self.token, line, event) {
-                Ok(()) => return Ok(()),
-                Err(unserved) => return Err(waiting_for(unserved)),
-            },
+            event => {
+                self.settled = [false; 8];
+                match self.ap.submit(rt, &mut *self.token, line, event) {
+                    Ok(()) => return Ok(()),
+                    Err(unserved) => return Err(waiting_for(unserved)),
+                }
+            }
         }
     }
 

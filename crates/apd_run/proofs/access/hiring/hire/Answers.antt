@@ -33,3 +33,9 @@ loop-number-preserved g c =
       queues = c.worker.ensures.keeps.queues ∙ c.loop-number.invariant.queues;
       maps = shapes_kept a.stock.maps b.stock.maps c.worker.ensures.keeps.tables ∙ c.loop-number.invariant.maps;
     }
+
+pub returns-in_default-clause-maps : goal.returns-in_default-clause-maps
+returns-in_default-clause-maps g c = shapes_kept _ _ c.worker.ensures.keeps.tables ∙ c.loop-number.invariant.maps
+
+pub returns-in_err-push-clause-maps : goal.returns-in_err-push-clause-maps
+returns-in_err-push-clause-maps g c = shapes_kept _ _ c.worker.ensures.keeps.tables ∙ c.loop-number.invariant.maps

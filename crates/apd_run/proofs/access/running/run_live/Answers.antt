@@ -19,4 +19,4 @@ returns-in_default-deal g c =
     }
 
 pub returns : goal.returns
-returns g c = record { runs = runs_under _ (sym c.requires.config) (c.in_default-deal.ensures.maps ∙ c.in_default.ensures.maps) c.run_with.ensures.runs; keeps = c.run_with.ensures.keeps }
+returns g c = record { runs = runs_under _ (sym c.requires.config) (c.deal.ensures.maps ∙ c.in-Ok.ensures.maps) c.run_with.ensures.runs; keeps = c.run_with.ensures.keeps }

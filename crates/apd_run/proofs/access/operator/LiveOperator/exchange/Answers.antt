@@ -1,4 +1,4 @@
-use Rattle.std.proofs.Common.{◌≡◌, ◌+◌, ◌<◌, ℕ, ap, length, slice_set, sym, subst, ◌∙◌}
+use Rattle.std.proofs.Common.{◌≡◌, ◌+◌, ◌<◌, ℕ, List, ap, length, slice_set, sym, subst, ◌∙◌}
 use Rattle.std.specs.Prelude.{slice_index_or}
 use Rattle.std.specs.Global.{Vec}
 use Rattle.ap_books.specs.Holdings.{HasMerged, HasMoreThan, HasParts, HasSplit, Holding, sum_of}
@@ -9,13 +9,15 @@ use Rattle.ap_shards.specs.Tokens.{holding_of}
 use Rattle.ap_live.specs.declared.tagged.Tagged.{Tagged}
 use Rattle.apd_driver.specs.Crews.{gains}
 use Rattle.ap_live.specs.Tokens.{Worker}
-use Rattle.apd_run.specs.Deciding.{Accounts}
-use Rattle.apd_run.specs.Hands.{RunOperator, RunWorker, claims, crew_of, work_of}
+use Rattle.ap_queues.specs.Items.{Item}
+use Rattle.ap_queues.specs.Lines.{puts_of}
+use Rattle.apd_run.specs.Deciding.{Accounts, TookAllOf}
+use Rattle.apd_run.specs.Hands.{AreSettled, RunOperator, RunWorker, claims, crew_of, work_of}
 use Rattle.apd_run.specs.InForce.{AreInForce, with_counts}
 use Rattle.apd_run.specs.declared.access.program_counts.ProgramCounts.{ProgramCounts}
 use Rattle.apd_run.proofs.Budgeting.{counted_in_force}
 use Rattle.apd_run.proofs.Deciding.{all_taken, renewed_unowned}
-use Rattle.apd_run.proofs.Keeping.{other_parts, settled_taken}
+use Rattle.apd_run.proofs.Keeping.{other_parts, same_taken, settled_taken}
 use Rattle.apd_run.proofs.Operated.{claimed_crew}
 use Rattle.apd_run.proofs.Sums.{exchanged_parts, exchanged_sum, fresh, more_than_one}
 use Rattle.apd_run.proofs.access.operator.LiveOperator.exchange.Goals as goal
@@ -30,6 +32,9 @@ renew-counted-requires g c = fresh c.split_off-fresh.result c.split_off-fresh.en
 pub returns-clause-worker : goal.returns-clause-worker
 returns-clause-worker g c = ap sum_of c.renew-counted.ensures.taken ∙ c.split_off-fresh.ensures.none
 
+pub invariant_of-self : goal.invariant_of-self
+invariant_of-self g c = same_taken _ _ _ c.claim.new.taken c.in_err-given.ensures.refused c.self.invariant
+
 pub invariant_of-self-2 : goal.invariant_of-self-2
 invariant_of-self-2 g c =
     let i = c.self.invariant in
@@ -43,6 +48,14 @@ invariant_of-self-2 g c =
     let programs : c.add.new.self ≡ with_counts c.self.inside.programs c.take_counts-runs.result = c.add.ensures.sums in
     let handled = ap (λ (v : Vec Tagged). tally v.items) c.replace-handled.ensures.value in
     let numbers : Reads c.counted_in-numbers.result (counted_by shards) = subst (Reads c.counted_in-numbers.result) (ap tally c.as_slice.ensures.value ∙ (handled ∙ sym c.worker.invariant.counts)) c.counted_in-numbers.ensures.reads in
+    let puts : List (List Item) = puts_of c.self.inside.token.value.lines in
+    let took : TookAllOf puts c.worker.inside.token = subst (λ (w : RunWorker). TookAllOf puts w.token) (sym c.worker.view_is)
+    (subst (λ (o : RunOperator _). TookAllOf (puts_of o.token.lines) c.args.worker.now.token) (sym c.self.view_is) c.requires.took) in
+    let sum : c.worker.inside.given + c.len-many.result ≡ c.worker.inside.given + length c.worker.inside.handled.items = ap (λ (n : ℕ). c.worker.inside.given + n) (c.len-many.ensures ∙ c.worker.inside.handled.ok.0) in
+    let settled : AreSettled c.self.inside.settled c.claim.new.taken c.self.inside.told puts c.self.inside.loads.now.loads =
+    subst (λ (l : List ℕ). AreSettled c.self.inside.settled l c.self.inside.told puts c.self.inside.loads.now.loads) (sym c.in_ok-given.ensures.noted)
+    (settled_taken c.self.inside.settled c.self.inside.taken c.self.inside.told puts c.self.inside.loads.now.loads c.worker.inside.number (c.worker.inside.given + c.len-many.result) c.in_ok-given.ensures.below
+    (all_taken puts c.worker.inside.given c.worker.inside.told _ c.worker.inside.number c.worker.inside.token c.worker.inside.handled.items c.worker.invariant.number_is sum took c.worker.invariant.accounts) i.are_settled) in
     let given : HasParts 1 c.renew-counted.result = subst (HasParts 1) (sym (c.renew-counted.ensures.given ∙ ap (λ (w : Worker). holding_of w.shards) c.take_counts-runs.ensures.anew)) c.worker.invariant.parts in
     record {
       own = i.own;

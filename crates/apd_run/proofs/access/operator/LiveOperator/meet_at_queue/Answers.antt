@@ -28,5 +28,5 @@ pub returns-clause-same : goal.returns-clause-same
 returns-clause-same g c =
     same_puts g.F.Files.held _ _ c.meet_alone-is_empty.new.operator _ c.self.view_is c.deref_mut-token.ensures.value c.meet_alone-is_empty.ensures.put c.meet_alone-is_empty.ensures.same_operator
 
-pub returns-then-is_empty-clause-took : goal.returns-then-is_empty-clause-took
-returns-then-is_empty-clause-took g c = took_alone c.deref_mut-token.result.now.lines c.meet_alone-is_empty.new.operator.lines _ _ c.meet_alone-is_empty.ensures.put c.meet_alone-is_empty.ensures.same c.meet_alone-is_empty.ensures.taken (c.meet_alone-is_empty.ensures.whole c.if-is_empty.true)
+pub returns-clause-took : goal.returns-clause-took
+returns-clause-took g c = took_alone c.deref_mut-token.result.now.lines c.meet_alone-is_empty.new.operator.lines c.worker.inside.token c.meet_alone-is_empty.new.worker c.meet_alone-is_empty.ensures.put c.meet_alone-is_empty.ensures.same c.meet_alone-is_empty.ensures.taken (c.meet_alone-is_empty.ensures.whole c.if-not-is_empty.false)
