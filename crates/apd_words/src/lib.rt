@@ -11,6 +11,7 @@ ghost use Rattle.apd_words.specs.declared.Told.TheVariants.{NoMemory};
 mod command;
 pub mod laws;
 mod reading;
+mod table;
 mod words;
 
 use bpf_regions::Hook;
