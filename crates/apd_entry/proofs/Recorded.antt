@@ -47,7 +47,7 @@ pub keeps_under : (files : Held) (script : List ℕ) (known known2 : Type 0) (ma
     → KeepsScript files script known manner.form None None (Some (old, time)) (Some (new, time2))
     → KeepsInPlace known2 files script manner old new
 keeps_under files script known known2 manner old new time time2 f e k =
-    (time2, record { lines = k.lines; is_script = k.is_script; keeps = capture_under known known2 time time2 f e k.keeps })
+    (time2, record { shapes = k.shapes; lines = k.lines; is_script = k.is_script; keeps = capture_under known known2 time time2 f e k.keeps })
 
 -- the same of lines as they come
 pub formed_under : (form : Option Form) (known known2 : Type 0) (old new : Option (List ℕ)) (time time2 : ℕ)
