@@ -66,7 +66,7 @@ fn limited(rt: &impl Abort, alloc: Global, most: Option<u64>) -> u32 {
 #[test]
 fn a_check_keeps_its_limit_of_work(rt: HostRuntime) {
     // two states of 80 parts are examined, and none is compared
-    for (most, answer) in [
+    for &(most, answer) in &[
         (None, 2),
         (Some(0), 36),
         (Some(159), 36),
@@ -80,7 +80,7 @@ fn a_check_keeps_its_limit_of_work(rt: HostRuntime) {
 
 #[test]
 fn budgets_and_entries_are_checked(rt: HostRuntime) {
-    for (at, byte, answer) in [
+    for &(at, byte, answer) in &[
         (29, 3, 3),
         (29, 1, 72),
         // above 2^22

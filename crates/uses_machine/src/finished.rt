@@ -71,7 +71,7 @@ fn the_newest_that_includes_covers(rt: HostRuntime) {
     );
     keep(&rt, &mut finished, alloc, 1, number(), 7);
     keep(&rt, &mut finished, alloc, 2, number(), 9);
-    for (pc, value, budget) in [
+    for &(pc, value, budget) in &[
         (1, number(), Some(7)),
         (1, AbsVal::FrameEnd, Some(5)),
         (0, number(), None),

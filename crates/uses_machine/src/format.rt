@@ -113,13 +113,13 @@ fn fields_have_limits(rt: HostRuntime) {
         (93, 1),
         (40, 7),
     ];
-    for (at, byte) in wrong {
+    for &(at, byte) in &wrong {
         let bytes = with_byte(&rt, alloc, at, byte);
         let malformed = is_malformed(alloc, &shapes, &bytes);
         same(&rt, (at, byte, malformed), (at, byte, true), "malformed");
     }
     // Another budget, another slot, an existing stack frame: read, and written unchanged.
-    for (at, byte) in [(29, 7), (27, 1), (97, 16)] {
+    for &(at, byte) in &[(29, 7), (27, 1), (97, 16)] {
         let bytes = with_byte(&rt, alloc, at, byte);
         is_read_and_written(&rt, alloc, &shapes, &bytes);
     }

@@ -47,6 +47,13 @@ fn is_read(rt: &impl Abort, slot: [u8; 8], insn: Insn) {
     }
 }
 
+/// Each slot is read as its instruction.
+fn are_read(rt: &impl Abort, rows: &[([u8; 8], Insn)]) {
+    for (slot, insn) in rows {
+        is_read(rt, *slot, *insn);
+    }
+}
+
 /// The destination of each row.
 fn r1() -> Reg {
     Reg::new(1)
@@ -69,37 +76,38 @@ fn alu(op: AluOp, wide: bool, source: Source) -> Insn {
 #[test]
 fn arithmetic_is_read_as_the_tables_say(rt: HostRuntime) {
     // add r1, -2; sub32 r1, r2; sdiv r1, r2; smod32 r1, 3; arsh r1, 63; neg r1
-    for (slot, insn) in [
-        (
-            [0x07, 0x01, 0, 0, 0xfe, 0xff, 0xff, 0xff],
-            alu(AluOp::Add, true, Source::Imm(-2)),
-        ),
-        (
-            [0x1c, 0x21, 0, 0, 0, 0, 0, 0],
-            alu(AluOp::Sub, false, Source::Reg(r2())),
-        ),
-        (
-            [0x3f, 0x21, 1, 0, 0, 0, 0, 0],
-            alu(AluOp::Sdiv, true, Source::Reg(r2())),
-        ),
-        (
-            [0x94, 0x01, 1, 0, 3, 0, 0, 0],
-            alu(AluOp::Smod, false, Source::Imm(3)),
-        ),
-        (
-            [0xc7, 0x01, 0, 0, 63, 0, 0, 0],
-            alu(AluOp::Arsh, true, Source::Imm(63)),
-        ),
-        (
-            [0x87, 0x01, 0, 0, 0, 0, 0, 0],
-            Insn::Neg {
-                wide: true,
-                dst: r1(),
-            },
-        ),
-    ] {
-        is_read(&rt, slot, insn);
-    }
+    are_read(
+        &rt,
+        &[
+            (
+                [0x07, 0x01, 0, 0, 0xfe, 0xff, 0xff, 0xff],
+                alu(AluOp::Add, true, Source::Imm(-2)),
+            ),
+            (
+                [0x1c, 0x21, 0, 0, 0, 0, 0, 0],
+                alu(AluOp::Sub, false, Source::Reg(r2())),
+            ),
+            (
+                [0x3f, 0x21, 1, 0, 0, 0, 0, 0],
+                alu(AluOp::Sdiv, true, Source::Reg(r2())),
+            ),
+            (
+                [0x94, 0x01, 1, 0, 3, 0, 0, 0],
+                alu(AluOp::Smod, false, Source::Imm(3)),
+            ),
+            (
+                [0xc7, 0x01, 0, 0, 63, 0, 0, 0],
+                alu(AluOp::Arsh, true, Source::Imm(63)),
+            ),
+            (
+                [0x87, 0x01, 0, 0, 0, 0, 0, 0],
+                Insn::Neg {
+                    wide: true,
+                    dst: r1(),
+                },
+            ),
+        ],
+    );
 }
 
 fn move_signed(from: Extension, wide: bool) -> Insn {
@@ -122,26 +130,27 @@ fn end(order: ByteOrder, width: OrderWidth) -> Insn {
 #[test]
 fn moves_and_byte_orders_are_read_as_the_tables_say(rt: HostRuntime) {
     // movsx32 r1, r2; movsx16_32 r1, r2; be16 r1; swap64 r1
-    for (slot, insn) in [
-        (
-            [0xbf, 0x21, 32, 0, 0, 0, 0, 0],
-            move_signed(Extension::Word, true),
-        ),
-        (
-            [0xbc, 0x21, 16, 0, 0, 0, 0, 0],
-            move_signed(Extension::Half, false),
-        ),
-        (
-            [0xdc, 0x01, 0, 0, 16, 0, 0, 0],
-            end(ByteOrder::Big, OrderWidth::Half),
-        ),
-        (
-            [0xd7, 0x01, 0, 0, 64, 0, 0, 0],
-            end(ByteOrder::Swap, OrderWidth::Double),
-        ),
-    ] {
-        is_read(&rt, slot, insn);
-    }
+    are_read(
+        &rt,
+        &[
+            (
+                [0xbf, 0x21, 32, 0, 0, 0, 0, 0],
+                move_signed(Extension::Word, true),
+            ),
+            (
+                [0xbc, 0x21, 16, 0, 0, 0, 0, 0],
+                move_signed(Extension::Half, false),
+            ),
+            (
+                [0xdc, 0x01, 0, 0, 16, 0, 0, 0],
+                end(ByteOrder::Big, OrderWidth::Half),
+            ),
+            (
+                [0xd7, 0x01, 0, 0, 64, 0, 0, 0],
+                end(ByteOrder::Swap, OrderWidth::Double),
+            ),
+        ],
+    );
 }
 
 #[test]
@@ -154,22 +163,23 @@ fn jumps_are_read_as_the_tables_say(rt: HostRuntime) {
         offset: 2,
     };
     // ja -1; ja32 +65536; jsgt32 r1, -1, +2; call 5; call local +1; exit
-    for (slot, insn) in [
-        ([0x05, 0, 0xff, 0xff, 0, 0, 0, 0], Insn::Jump { offset: -1 }),
-        (
-            [0x06, 0, 0, 0, 0, 0, 1, 0],
-            Insn::JumpLong { offset: 65536 },
-        ),
-        ([0x66, 0x01, 2, 0, 0xff, 0xff, 0xff, 0xff], taken),
-        ([0x85, 0, 0, 0, 5, 0, 0, 0], Insn::Call { helper: 5 }),
-        (
-            [0x85, 0x10, 0, 0, 1, 0, 0, 0],
-            Insn::CallLocal { offset: 1 },
-        ),
-        ([0x95, 0, 0, 0, 0, 0, 0, 0], Insn::Exit),
-    ] {
-        is_read(&rt, slot, insn);
-    }
+    are_read(
+        &rt,
+        &[
+            ([0x05, 0, 0xff, 0xff, 0, 0, 0, 0], Insn::Jump { offset: -1 }),
+            (
+                [0x06, 0, 0, 0, 0, 0, 1, 0],
+                Insn::JumpLong { offset: 65536 },
+            ),
+            ([0x66, 0x01, 2, 0, 0xff, 0xff, 0xff, 0xff], taken),
+            ([0x85, 0, 0, 0, 5, 0, 0, 0], Insn::Call { helper: 5 }),
+            (
+                [0x85, 0x10, 0, 0, 1, 0, 0, 0],
+                Insn::CallLocal { offset: 1 },
+            ),
+            ([0x95, 0, 0, 0, 0, 0, 0, 0], Insn::Exit),
+        ],
+    );
 }
 
 fn store(size: Size, offset: i16, source: Source) -> Insn {
@@ -201,27 +211,28 @@ fn accesses_are_read_as_the_tables_say(rt: HostRuntime) {
         offset: -8,
     };
     // ldsxh r1, [r2-8]; stw [r1+4], 7; stxdw [r1+8], r2; cmpxchg [r1+0], r2; fetch_and32 [r1+0], r2
-    for (slot, insn) in [
-        ([0x89, 0x21, 0xf8, 0xff, 0, 0, 0, 0], load),
-        (
-            [0x62, 0x01, 4, 0, 7, 0, 0, 0],
-            store(Size::Word, 4, Source::Imm(7)),
-        ),
-        (
-            [0x7b, 0x21, 8, 0, 0, 0, 0, 0],
-            store(Size::Double, 8, Source::Reg(r2())),
-        ),
-        (
-            [0xdb, 0x21, 0, 0, 0xf1, 0, 0, 0],
-            atomic(AtomicOp::Cmpxchg, true),
-        ),
-        (
-            [0xc3, 0x21, 0, 0, 0x51, 0, 0, 0],
-            atomic(AtomicOp::FetchAnd, false),
-        ),
-    ] {
-        is_read(&rt, slot, insn);
-    }
+    are_read(
+        &rt,
+        &[
+            ([0x89, 0x21, 0xf8, 0xff, 0, 0, 0, 0], load),
+            (
+                [0x62, 0x01, 4, 0, 7, 0, 0, 0],
+                store(Size::Word, 4, Source::Imm(7)),
+            ),
+            (
+                [0x7b, 0x21, 8, 0, 0, 0, 0, 0],
+                store(Size::Double, 8, Source::Reg(r2())),
+            ),
+            (
+                [0xdb, 0x21, 0, 0, 0xf1, 0, 0, 0],
+                atomic(AtomicOp::Cmpxchg, true),
+            ),
+            (
+                [0xc3, 0x21, 0, 0, 0x51, 0, 0, 0],
+                atomic(AtomicOp::FetchAnd, false),
+            ),
+        ],
+    );
 }
 
 #[test]
@@ -279,7 +290,7 @@ fn the_lowest_fault_is_named(rt: HostRuntime) {
         ([0x18, 0x00, 0, 0, 0, 0, 0, 0], FieldFault::CutWide),
         ([0x18, 0x10, 0, 0, 0, 0, 0, 0], FieldFault::Undefined),
     ];
-    for (slot, fault) in faults {
+    for &(slot, fault) in &faults {
         let read = Insn::from_slots(slot, None);
         same(&rt, (slot, read), (slot, Err(fault)), "fault");
     }

@@ -422,7 +422,7 @@ fn operations_are_computed(rt: HostRuntime) {
 
 #[test]
 fn negations(rt: HostRuntime) {
-    for (a, wide, wanted) in [
+    for &(a, wide, wanted) in &[
         (
             SOME,
             true,
@@ -443,7 +443,7 @@ fn negations(rt: HostRuntime) {
 
 #[test]
 fn moves_with_sign(rt: HostRuntime) {
-    for (a, from, wide, wanted) in [
+    for &(a, from, wide, wanted) in &[
         (SOME, Extension::Byte, true, SOME),
         (
             BYTE,
@@ -477,7 +477,7 @@ fn moves_with_sign(rt: HostRuntime) {
 
 #[test]
 fn byte_orders(rt: HostRuntime) {
-    for (a, order, width, wanted) in [
+    for &(a, order, width, wanted) in &[
         (NEAR_ZERO, ByteOrder::Little, OrderWidth::Double, FULL),
         (OFFSET, ByteOrder::Little, OrderWidth::Word, OFFSET),
         (
@@ -564,7 +564,7 @@ fn tightening(rt: HostRuntime) {
 
 #[test]
 fn low_halves(rt: HostRuntime) {
-    for (known, wanted) in [(OFFSET, OFFSET), (LARGE, WORD), (NEAR_ZERO, WORD)] {
+    for &(known, wanted) in &[(OFFSET, OFFSET), (LARGE, WORD), (NEAR_ZERO, WORD)] {
         same(&rt, number(known).cut(), number(wanted), "low half");
     }
 }

@@ -372,7 +372,7 @@ fn limits_cut_runs_and_frames_are_tested(rt: HostRuntime) {
     }
     let mut bytes = [0u8; 26];
     bytes[24] = 77;
-    for (length, end) in [(26, Ends(77, 6)), (24, Ends(0, 5))] {
+    for &(length, end) in &[(26, Ends(77, 6)), (24, Ends(0, 5))] {
         let given = Given {
             map: None,
             frame: &bytes[..length],

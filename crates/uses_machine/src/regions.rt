@@ -21,7 +21,7 @@ fn are_shapes(rt: &impl Abort, alloc: Global, shapes: &[Shape]) -> bool {
 
 #[test]
 fn shapes_have_limits(rt: HostRuntime) {
-    for (entries, words, valid) in [
+    for &(entries, words, valid) in &[
         (1, 1, true),
         (4096, 8, true),
         (0, 1, false),
@@ -68,7 +68,7 @@ fn is_named(rt: &impl Abort, alloc: Global, hook: Hook, name: &str) {
 
 #[test]
 fn hooks_are_named_as_on_the_command_line(rt: HostRuntime) {
-    for (hook, name) in [
+    for &(hook, name) in &[
         (Hook::Association, "assoc"),
         (Hook::Addba, "addba"),
         (Hook::Data, "data"),

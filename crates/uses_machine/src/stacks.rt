@@ -82,7 +82,7 @@ fn one_label_is_forgotten_everywhere(rt: HostRuntime) {
     let before = stack.clone().expect(&rt, "memory");
     stack.forget(8);
     same(&rt, before.get(62), spilled(Some(first)), "get");
-    for (index, wanted) in [
+    for &(index, wanted) in &[
         (0, spilled(None)),
         (1, spilled(Some(other))),
         (2, number(8)),

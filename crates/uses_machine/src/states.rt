@@ -290,7 +290,7 @@ fn a_label_is_made_anew_in_each_call(rt: HostRuntime) {
         (true, false),
         "forgotten",
     );
-    for (kept, main) in [(behind(8), anywhere()), (anywhere(), anywhere())] {
+    for &(kept, main) in &[(behind(8), anywhere()), (anywhere(), anywhere())] {
         let mut back = copied(&rt, &state);
         if back.depth() > 1 {
             back.return_to_caller().expect(&rt, "memory");

@@ -99,7 +99,7 @@ fn a_trace_is_appended_to_its_log(rt: HostRuntime) {
 
 #[test]
 fn faults_have_their_numbers(rt: HostRuntime) {
-    for (fault, number) in [
+    for &(fault, number) in &[
         (Fault::Unset, 30),
         (Fault::WrongOperand, 31),
         (Fault::OutsideRegion, 32),

@@ -154,7 +154,7 @@ fn a_slot_with_a_number_has_all_bytes_set(rt: HostRuntime) {
     let all = AbsSlot::Bytes(0xff);
     let low = AbsSlot::Bytes(0x0f);
     let reference = AbsSlot::Stored(AbsVal::FrameEnd);
-    for slot in [stored, all, low, reference, AbsSlot::Unset] {
+    for slot in &[stored, all, low, reference, AbsSlot::Unset] {
         holds(
             &rt,
             slot.is_included(&AbsSlot::Unset, &none, &none),
@@ -198,7 +198,7 @@ fn a_slot_with_a_number_has_all_bytes_set(rt: HostRuntime) {
 
 #[test]
 fn one_label_is_forgotten(rt: HostRuntime) {
-    for value in [behind(8, 1), behind(9, 1), anywhere(), number(8)] {
+    for &value in &[behind(8, 1), behind(9, 1), anywhere(), number(8)] {
         let had = value == behind(8, 1);
         let left = if had { anywhere() } else { value };
         same(&rt, value.has_label(8), had, "has label");
