@@ -142,17 +142,18 @@ impl<B: Ledgers + Journals> WorkerToken<B> {
 }
 
 impl<B: Ledgers + Journals> LeftTokens<B> {
-    ghost use Rattle.std.specs.Prelude.{◌≡◌};
-    ghost use Rattle.ap_shards.specs.Pages.{HasPages, both_pages, pages_of};
+    ghost use Rattle.std.specs.Prelude.{◌≡◌, ◌-◌};
+    ghost use Rattle.ap_shards.specs.Pages.{AreNewPages, HasPages, both_pages, pages_of};
     ghost use Rattle.ap_books.specs.Holdings.{HasParts};
     ghost use Rattle.ap_shards.specs.Tokens.{holding_of};
 
-    /// The parts of the ledgers that were not given, as many pages, of which one may have entries, and the
-    /// handles of the queues that were not given.
+    /// The parts of the ledgers that were not given, as many pages, of which one may have entries and the
+    /// others are new, and the handles of the queues that were not given.
     pub fn into_all(self) -> (Portions<B>, AllPages<B>, LinePasses)
         ensures is { result.0 ≡ holding_of self.shards }
         ensures parts { HasParts self.parts result.0 }
         ensures pages { result.1 ≡ both_pages (pages_of self.shards) self.pages }
+        ensures new { AreNewPages (self.parts - 1) self.pages }
         ensures count { HasPages self.parts result.1 }
         ensures passes { result.2 ≡ self.passes }
     {

@@ -12,7 +12,7 @@ use Rattle.apd_driver.specs.Captures.{Interval, KeepsLines, KeepsRun, KeepsWhole
 use Rattle.apd_driver.specs.Capturing.{Recorded}
 use Rattle.apd_driver.specs.Crews.{Crew}
 use Rattle.apd_driver.specs.Semantics.{Semantics}
-use Rattle.apd_driver.specs.Shows.{Finishes, IsBroken, Part, Whole}
+use Rattle.apd_driver.specs.Shows.{Finishes, IsBroken, NotGathered, Part, Whole}
 use Rattle.apd_driver.specs.declared.manner.Manner.{Manner}
 use Rattle.apd_driver.specs.declared.reports.report.Form.{Form}
 
@@ -120,8 +120,9 @@ pub keeps_broken : (form : Form) (script : Option (List (ℕ × Asked))) (old ne
 keeps_broken form script old new before after status broken low = absurd (no_low status broken low)
 
 -- a whole run, and its totals
-pub keeps_whole : (form : Form) (script : Option (List (ℕ × Asked))) (old mid new : Option (List ℕ)) (before between after : Recorded) (counted : Counts) (own status : ℕ) → KeepsRun form script old mid before between
-    → Finishes mid new counted own status → after ≡ between → status < 2 → KeepsWhole form script old new before after
-keeps_whole form script old mid new before between after counted own status k (Whole totals reads text) same low =
+pub keeps_whole : {s : Semantics} → (form : Form) (script : Option (List (ℕ × Asked))) (old mid new : Option (List ℕ)) (before between after : Recorded) (crew : Crew s) (own status : ℕ) → KeepsRun form script old mid before between
+    → Finishes mid new crew own status → after ≡ between → status < 2 → KeepsWhole form script old new before after
+keeps_whole form script old mid new before between after crew own status k (Whole totals gathers text) same low =
     record { mid = mid; totals = totals; keeps = subst (λ (r : Recorded). KeepsRun form script old mid before r) (sym same) k; last = text }
-keeps_whole form script old mid new before between after counted own status k (Part totals late reads text broken) same low = absurd (no_low status broken low)
+keeps_whole form script old mid new before between after crew own status k (Part totals late gathers text broken) same low = absurd (no_low status broken low)
+keeps_whole form script old mid new before between after crew own status k (NotGathered late nothing broken) same low = absurd (no_low status broken low)

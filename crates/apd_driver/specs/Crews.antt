@@ -1,5 +1,5 @@
 -- What an operator knows of its crew.
-use Rattle.std.specs.Prelude.{◌≡◌, ℕ, ◌+◌, List, ◌++◌}
+use Rattle.std.specs.Prelude.{◌≡◌, ℕ, List, ◌++◌}
 use Rattle.ap_books.specs.Counts.{Counts, plus}
 use Rattle.apd_driver.specs.declared.reports.report.Report.{Report}
 use Rattle.apd_driver.specs.Following.{Looks, TakesAll}
@@ -15,10 +15,6 @@ pub record Crew (s : Semantics) : Type 0 where
 -- a worker that has counted this came back
 abbrev pub gains : {s : Semantics} → Crew s → Counts → Crew s
 gains crew counted = record { workers = crew.workers; counted = plus crew.counted counted; work = crew.work }
-
--- one more worker has rights
-abbrev pub with_one_more : {s : Semantics} → Crew s → Crew s
-with_one_more crew = record { workers = crew.workers + 1; counted = crew.counted; work = crew.work }
 
 -- the operator has done this
 abbrev pub with_work : {s : Semantics} → Crew s → s.Work → Crew s

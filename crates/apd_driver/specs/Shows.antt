@@ -2,7 +2,7 @@
 use Rattle.std.specs.Prelude.{◌≡◌, ◌⊎◌, ℕ, List, [], ◌++◌, map, Option, Bool, true, false, ◌||◌, ◌&&◌, if◌then◌else◌}
 use Rattle.std.specs.List.{list_any}
 use Rattle.std.specs.Io.KnownBytes.{Appends, Keeps}
-use Rattle.ap_books.specs.Counts.{Counts, none}
+use Rattle.ap_books.specs.Counts.{none}
 use Rattle.ap_books.specs.Reading.{Reads}
 use Rattle.ap_books.specs.declared.totals.Totals.{Totals}
 use Rattle.apd_files.specs.Beginning.{AppendsBeginning}
@@ -187,14 +187,20 @@ status_of memory refused = if memory then 3 else (if refused then 1 else 0)
 abbrev pub IsBroken : ℕ → Type 0
 IsBroken status = (status ≡ 2) ⊎ (status ≡ 3)
 
--- the last line says what was counted in all, with the run's own status; or only a prefix of it may be written
-pub data Finishes (old new : Option (List ℕ)) (counted : Counts) (own : ℕ) : ℕ → Type 0 where
-  Whole : (totals : Totals) → Reads totals counted → Appends old new (totals_text totals) → Finishes old new counted own own
-  Part : (totals : Totals) (status : ℕ) → Reads totals counted → AppendsBeginning old new (totals_text totals) → IsBroken status
-      → Finishes old new counted own status
+-- these are the totals of what was counted in all, and what was taken over is all that was decided
+pub record Gathers {s : Semantics} (crew : Crew s) (totals : Totals) : Type 0 where
+  pub reads : Reads totals crew.counted
+  pub all_told : s.AllTold crew.counted crew.work
+
+-- the last line says what was counted in all, with the run's own status; or only a prefix of it may be written, or nothing
+pub data Finishes {s : Semantics} (old new : Option (List ℕ)) (crew : Crew s) (own : ℕ) : ℕ → Type 0 where
+  Whole : (totals : Totals) → Gathers crew totals → Appends old new (totals_text totals) → Finishes old new crew own own
+  Part : (totals : Totals) (status : ℕ) → Gathers crew totals → AppendsBeginning old new (totals_text totals) → IsBroken status
+      → Finishes old new crew own status
+  NotGathered : (status : ℕ) → new ≡ old → IsBroken status → Finishes old new crew own status
 
 -- a whole run of the script and its status: its intervals and then the last line, or it breaks off in its intervals
 pub data Runs {s : Semantics} (manner : Manner) (script : Option (List (ℕ × Asked))) (old new : Option (List ℕ)) (crew : Crew s) : ℕ → Type 0 where
   Ends : (mid : Option (List ℕ)) (all : Crew s) (memory refused : Bool) (status : ℕ) → ShowsScript manner script old mid crew all memory refused
-      → Finishes mid new all.counted (status_of memory refused) status → Runs manner script old new crew status
+      → Finishes mid new all (status_of memory refused) status → Runs manner script old new crew status
   Fails : (status : ℕ) → Breaks manner script old new crew → IsBroken status → Runs manner script old new crew status

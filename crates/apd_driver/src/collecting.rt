@@ -4,7 +4,7 @@ ghost use Rattle.std.specs.Prelude.{◌≡◌, ◌+◌, length, OnOk, vec_len};
 ghost use Rattle.apd_driver.specs.Crews.{Collects};
 
 use crate::Report;
-use crate::crew::{Desk, Done, Order, Ready, Serving};
+use crate::crew::{Desk, Done, Order, Serving};
 use crate::operating::Operating;
 use crate::setting::{Setting, Staff};
 use std::alloc::AllocError;
@@ -13,33 +13,19 @@ use std::sync::Wait;
 /// Sends a worker out to each desk.
 pub(crate) fn send_out<W: Serving + Drop, R: Wait>(
     setting: &Setting<'_, W, R>,
-    workers: &mut Vec<Ready<W>>,
+    workers: &mut Vec<W>,
     interval: u64,
 )
     requires all { vec_len workers.old ≡ length setting.now.desks.now }
     ensures none { vec_len workers.new ≡ 0 }
 {
     for desk in setting.desks {
-        let Some(ready) = workers.pop() else {
+        let Some(worker) = workers.pop() else {
             unreachable!()
         };
-        desk.orders.put(setting.rt, Some(Order { ready, interval }));
+        desk.orders
+            .put(setting.rt, Some(Order { worker, interval }));
     }
-}
-
-/// Takes over what a worker has counted, and returns it at rest. The reports on its events are appended to the others.
-fn settled<W: Serving + Drop, O: Operating<W>>(
-    operator: &mut O,
-    worker: W,
-    all: &mut Vec<Report>,
-) -> Result<Ready<W>, AllocError>
-    requires alike { (worker : _) → O.taken worker ≡ W.counted worker }
-    ensures collects { OnOk result (Collects (O.crew operator.old) (O.crew operator.new)
-        all.old.items all.new.items) }
-{
-    let mut worker = worker;
-    operator.settle(&mut worker, all)?;
-    Ok(Ready { worker })
 }
 
 /// Waits for a worker and takes it back. The reports on its events are appended to the others.
@@ -59,8 +45,9 @@ fn collect_one<W: Serving + Drop, O: Operating<W> + Drop, R: Wait>(
     if refused {
         return Err(AllocError);
     }
-    let ready = settled(operator, worker, all)?;
-    workers.push_reserved(ready);
+    let mut worker = worker;
+    operator.settle(&mut worker, all)?;
+    workers.push_reserved(worker);
     Ok(())
 }
 

@@ -1,8 +1,7 @@
 //! The workers of a run: threads that live for a whole script, and serve between two waits.
 //!
-//! Main calls: `start_all`, and `work` for each thread. It depends on `ap_books`. A worker goes out with nothing counted,
-//! and comes back with what it counted and with what became of its events. It goes by its desk: no worker is lost, and none
-//! is out twice. No contract says that a worker runs, or comes back.
+//! Main calls: `start_all`, and `work` for each thread. A worker goes out, and comes back with what became of its events. It
+//! goes by its desk: no worker is lost, and none is out twice. No contract says that a worker runs, or comes back.
 mod desk;
 mod hand;
 mod serving;
@@ -10,7 +9,7 @@ mod starting;
 mod working;
 
 pub use desk::{Desk, Order, Signs};
-pub use hand::{Done, Ready};
+pub use hand::Done;
 pub use serving::Serving;
 pub use starting::{Task, start_all};
 pub use working::work;

@@ -34,7 +34,7 @@ pub use capturing::{
     capture_law,
 };
 pub use console::{Console, Notes, Terminal};
-pub use crew::{Ready, Serving};
+pub use crew::Serving;
 pub use input::Input;
 pub use lines::{Lines, Script};
 pub use manner::Manner;

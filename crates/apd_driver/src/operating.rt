@@ -1,11 +1,11 @@
 //! What the operator of a run can do.
 
-ghost use Rattle.std.specs.Prelude.{◌≡◌, ◌<◌, IfOk, IfErr, IfSome, OnOk};
-ghost use Rattle.ap_books.specs.Counts.{Counts, none};
+ghost use Rattle.std.specs.Prelude.{◌≡◌, vec_len, IfOk, IfErr, IfSome, OnOk};
+ghost use Rattle.ap_books.specs.Counts.{none};
 ghost use Rattle.ap_books.specs.Reading.{Reads};
 ghost use Rattle.apd_driver.specs.Asking.{AreAgreementsInOrder, AreStationsInOrder, AreWithinBudget};
 ghost use Rattle.apd_driver.specs.Tallies.{told_counts};
-ghost use Rattle.apd_driver.specs.Crews.{Collects, Crew, LooksOn, Works, with_one_more};
+ghost use Rattle.apd_driver.specs.Crews.{Collects, Crew, LooksOn, Works};
 ghost use Rattle.apd_driver.specs.Following.{Concerns, PutsAll, PutsFrom, WaitsAt, first_shard, for_publication, for_use, shard_end};
 ghost use Rattle.apd_driver.specs.Semantics.{Semantics};
 
@@ -30,9 +30,6 @@ pub trait Operating<W> {
 
     // How many workers have its rights, what those that came back have counted, and what it has done.
     ghost crew: { Self → Crew semantics };
-
-    // What a worker has counted since the operator last took over its counts.
-    ghost taken: { W → Counts };
 
     /// Submits an event of the line to its shard's worker; a tick, to each shard's.
     fn submit<R: Wait>(&mut self, rt: &R, line: u64, event: Event) -> Result<(), Waiting>
@@ -90,25 +87,22 @@ pub trait Operating<W> {
         ensures reads { Reads result (crew self.now).counted };
 
     /// Takes over what a worker has counted, and appends the reports on its events, in their order. It tells the worker of
-    /// the loads so far. Err: an allocation failed for the reports.
+    /// the loads so far. Err: an allocation failed for the reports, or the worker left something in its queue, which can't
+    /// happen if it served until it found nothing.
     fn settle(&mut self, worker: &mut W, reports: &mut Vec<Report>) -> Result<(), AllocError>
         ensures collects { OnOk result (Collects (crew self.old) (crew self.new)
-            reports.old.items reports.new.items) }
-        ensures worker { OnOk result (taken worker.new ≡ none) };
+            reports.old.items reports.new.items) };
 
     /// Finds that nothing is left for a worker to report, or to be told. Err: something is, which can't happen if each
     /// worker was settled after the last line was followed.
     fn find_none_left(&self) -> Result<(), AllocError>
         ensures none_left { OnOk result (semantics.NoneLeft (crew self.now).work) };
 
-    /// Takes a worker's rights back.
-    fn dismiss(&mut self, worker: W)
-        requires some { 0 < (crew self.old).workers }
-        requires nothing { taken worker ≡ none }
-        ensures crew { crew self.old ≡ with_one_more (crew self.new) };
-
-    /// Returns what has been counted. No worker has rights any more.
-    fn gather<R: Wait>(self, rt: &R) -> Totals
-        requires all { (crew self).workers ≡ 0 }
-        ensures reads { Reads result (crew self).counted };
+    /// Takes the rights of all workers back, and returns what has been counted. What was taken over is then all that was
+    /// decided. Err: a shard has decided about 2^61 events, which no run reaches, or they aren't all workers, each settled after
+    /// it served, which can't happen.
+    fn gather<R: Wait>(self, rt: &R, workers: Vec<W>) -> Result<Totals, AllocError>
+        requires all { vec_len workers ≡ (crew self).workers }
+        ensures reads { IfOk result (λ totals. Reads totals (crew self).counted) }
+        ensures all_told { OnOk result (semantics.AllTold (crew self).counted (crew self).work) };
 }

@@ -6,7 +6,7 @@ ghost use Rattle.apd_driver.specs.Shows.{Breaks, ShowsScript, IsBroken, status_o
 
 use crate::capturing::Printing;
 use crate::console::Console;
-use crate::crew::{Desk, Ready, Serving, Signs};
+use crate::crew::{Desk, Serving, Signs};
 use crate::found::Found;
 use crate::lines::Lines;
 use crate::operating::Operating;
@@ -50,19 +50,6 @@ fn ended(found: Found) -> u8
     }
 }
 
-fn dismiss_all<W: Serving + Drop, O: Operating<W>>(operator: &mut O, workers: Vec<Ready<W>>)
-    requires alike { (worker : _) → O.taken worker ≡ W.counted worker }
-    requires all { vec_len workers ≡ (O.crew operator.old).workers }
-    ensures none { (O.crew operator.new).workers ≡ 0 }
-    ensures counted { (O.crew operator.new).counted ≡ (O.crew operator.old).counted }
-{
-    let mut workers = workers;
-    'workers: while let Some(ready) = workers.pop() {
-        let Ready { worker } = ready;
-        operator.dismiss(worker);
-    }
-}
-
 /// Prints the last line, and returns the status: `own` if the line was written.
 fn finish<W: Serving + Drop, O: Operating<W> + Drop, R: Wait, P: Printing>(
     rt: &R,
@@ -73,15 +60,13 @@ fn finish<W: Serving + Drop, O: Operating<W> + Drop, R: Wait, P: Printing>(
 ) -> u8
     requires all { vec_len staff.workers ≡ (O.crew staff.operator).workers }
     ensures finishes { Finishes (P.contents writer.old) (P.contents writer.new)
-        (O.crew staff.operator).counted own result }
+        (O.crew staff.operator) own result }
     ensures kept { P.recorded writer.new ≡ P.recorded writer.old }
 {
-    let Staff {
-        mut operator,
-        workers,
-    } = staff;
-    dismiss_all(&mut operator, workers);
-    let totals = operator.gather(rt);
+    let Staff { operator, workers } = staff;
+    let Ok(totals) = operator.gather(rt, workers) else {
+        return broken(PrintFault::NoMemory);
+    };
     match print_totals(alloc, writer, &totals) {
         Ok(()) => own,
         Err(fault) => broken(fault),

@@ -1,8 +1,6 @@
 //! What all parts of a run need.
 
-ghost use Rattle.std.specs.Prelude.{◌≡◌};
-
-use crate::crew::{Desk, Ready, Serving, Signs};
+use crate::crew::{Desk, Serving, Signs};
 use crate::manner::Manner;
 use crate::operating::Operating;
 use std::alloc::Global;
@@ -17,10 +15,9 @@ pub struct Setting<'a, W: Serving + Drop, R> {
     pub manner: Manner,
 }
 
-/// An operator and the workers at rest. Both agree on what a worker has counted.
+/// An operator and the workers at rest.
 #[derive(Drop)]
 pub struct Staff<W: Serving + Drop, O: Operating<W> + Drop> {
     pub operator: O,
-    pub workers: Vec<Ready<W>>,
-    pub ghost alike: { (worker : _) → O.taken worker ≡ W.counted worker },
+    pub workers: Vec<W>,
 }

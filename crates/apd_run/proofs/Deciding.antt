@@ -1,8 +1,8 @@
 -- What became of a worker's events, and the histories of the shards.
-use Rattle.std.proofs.Common.{◌≡◌, ◌+◌, ◌<◌, ◌≤◌, ℕ, Bool, true, false, List, [], ◌∷◌, ◌++◌, get_or, length, map, refl, sym, ap, subst, ◌∙◌, append_assoc, append-nil, arith}
+use Rattle.std.proofs.Common.{◌≡◌, ◌+◌, ◌<◌, ◌≤◌, ℕ, Bool, true, false, List, [], ◌∷◌, ◌++◌, length, map, refl, sym, ap, subst, ◌∙◌, append_assoc, append-nil, arith}
 use Rattle.std.specs.Prelude.{◌==◌, slice_index_or}
 use Rattle.std.specs.List.{All}
-use Rattle.std.proofs.lemmas.List.{length-append, length-map, map-append}
+use Rattle.std.proofs.lemmas.List.{map-append}
 use Rattle.std.proofs.lemmas.List.Elements.{All-append, All-cons, All-nil, All-same}
 use mathlib.Core.List.{IsPrefix}
 use Rattle.ap_model.specs.declared.event.Event.{Event}
@@ -11,6 +11,7 @@ use Rattle.ap_model.specs.Readings.{Config, Readings, Rules}
 use Rattle.ap_model.specs.Runs.{Entry}
 use Rattle.ap_core.specs.Handles.{rules}
 use Rattle.ap_locked.specs.Kept.{entry_of}
+use Rattle.ap_locked.specs.Pages.{Page}
 use Rattle.ap_locked.specs.Tokens.{IsAmong, Token}
 use Rattle.ap_queues.specs.declared.item.Queued.{Queued}
 use Rattle.ap_shards.specs.Fates.{ChangesIf, Comes}
@@ -35,8 +36,10 @@ use Rattle.ap_queues.specs.Lines.{puts_of}
 use Rattle.ap_queues.specs.declared.lines.passes.OperatorLines.{OperatorLines}
 use Rattle.ap_queues.specs.Passes.{taken_by}
 use Rattle.ap_queues.specs.Queues.{items_of}
-use Rattle.apd_run.specs.Deciding.{Accounts, AreOfQueue, Concerns, Deed, IsHistory, WasJudged, deed_of, deeds_at, histories_of, items_in, TookAllOf, with_deed}
-use Rattle.apd_run.proofs.Judging.{are_judged}
+use Rattle.apd_run.specs.Batches.{Batch, batches_of, events_in}
+use Rattle.apd_run.specs.Deciding.{Accounts, AreOfBatches, AreOfQueue, Concerns, Deed, IsHistory, WasJudged, deed_of, deeds_at, histories_of, items_in, TookAllOf, with_deed}
+use Rattle.apd_run.proofs.Batches.{of_more_loads, of_one_more}
+use Rattle.apd_run.proofs.Judging.{all_judged, are_judged}
 
 -- ---- what is told of events, list by list
 
@@ -53,23 +56,23 @@ deeds_two s (t ∷ ts) ys =
 
 -- ---- what a worker served
 
--- these verdicts go by more loads, if more were published
-judged_more : (least : ℕ) (xs ys : List Load) → IsPrefix xs ys → (e : Entry) → WasJudged least xs e → WasJudged least ys e
-judged_more least xs ys p e j = record { loads = j.loads; first = prefix_trans j.loads xs ys j.first p; many = j.many; judged = j.judged }
-
-pub all_judged : (least : ℕ) (xs ys : List Load) → IsPrefix xs ys → (es : List Entry) → All (WasJudged least xs) es → All (WasJudged least ys) es
-all_judged least xs ys p es all k d low = judged_more least xs ys p (get_or es k d) (all k d low)
-
 -- the token has more entries of its own, which say this, with verdicts of programs in which the first of these loads result
 record Adds (least : ℕ) (published : List Load) (t : Token) (deeds : List Deed) (u : Token) : Type 0 where
   entries : List Entry
   own : u.own ≡ t.own ++ entries
+  page : u.page.made ≡ t.page.made ++ entries
   say : map deed_of entries ≡ deeds
   judged : All (WasJudged least published) entries
 
 adds_none : (least : ℕ) (published : List Load) (t u : Token) → u ≡ t → Adds least published t [] u
 adds_none least published t u is =
-    record { entries = []; own = ap (λ (z : Token). z.own) is ∙ sym (append-nil t.own); say = refl; judged = All-nil (WasJudged least published) }
+    record {
+      entries = [];
+      own = ap (λ (z : Token). z.own) is ∙ sym (append-nil t.own);
+      page = ap (λ (z : Token). z.page.made) is ∙ sym (append-nil t.page.made);
+      say = refl;
+      judged = All-nil (WasJudged least published);
+    }
 
 -- these verdicts are those of the programs in which the loads result
 abbrev Judges : (Readings → List (Ask × ℕ) → Type 0) → List Load → Type 0
@@ -83,6 +86,7 @@ adds_one least published V loads judges first many rs e (Decided outs dropped) t
     record {
       entries = entry ∷ h.entries;
       own = h.own ∙ (ap (λ (l : List Entry). l ++ h.entries) c.own ∙ append_assoc t.own (entry ∷ []) h.entries);
+      page = h.page ∙ (ap (λ (p : Page). p.made ++ h.entries) c.page ∙ append_assoc t.page.made (entry ∷ []) h.entries);
       say = λ i. record { event = e; outs = outs.items; dropped = sym c.flag i } ∷ h.say i;
       judged = All-cons (WasJudged least published) entry h.entries (record { loads = loads; first = first; many = many; judged = judges c.readings c.asked c.verdicts }) h.judged;
     }
@@ -139,17 +143,17 @@ pub saw_more : (config : Config) (a : Live) (w w2 : Worker) (l l2 : List Tagged)
 saw_more config a w w2 l l2 s = rises config a w.number (progress_of w) s.items s.tags (progress_of w2) s.served
 
 -- a worker that served more
-pub accounts_more : (config : Config) (a : Live) (w w2 : Worker) (l l2 : List Tagged) → Served config a w w2 l l2 → (given told : ℕ) → told ≤ length w.seen.loads → Accounts given told w l → Accounts given told w2 l2
-accounts_more config a w w2 l l2 s given told learned h =
+pub accounts_more : (config : Config) (a : Live) (w w2 : Worker) (l l2 : List Tagged) → Served config a w w2 l l2 → (batches : List Batch) (told : ℕ) → told ≤ length w.seen.loads → Accounts batches told w l → Accounts batches told w2 l2
+accounts_more config a w w2 l l2 s batches told learned h =
     let more : All Concerns s.tags = all_concern config a w.number (progress_of w) s.items s.tags (progress_of w2) s.served in
     let items : items_in s.tags ≡ items_of s.items = same_items config a w.number (progress_of w) s.items s.tags (progress_of w2) s.served in
+    let all : List Tagged = events_in batches in
+    let saw : IsPrefix w.seen.loads w2.seen.loads = saw_more config a w w2 l l2 s in
     record {
-      before = h.before;
-      first = h.first;
-      items = h.items ++ s.items;
-      taken = s.took ∙ (ap (λ (x : List Queued). x ++ s.items) h.taken ∙ append_assoc h.before h.items s.items);
-      same = ap items_in s.listed
-          ∙ (map-append (λ (t : Tagged). t.item) l s.tags ∙ ((λ i. h.same i ++ items i) ∙ sym (map-append (λ (x : Queued). x.item) h.items s.items)));
+      taken = ap items_of s.took
+          ∙ (map-append (λ (x : Queued). x.item) (taken_by w.pass) s.items
+          ∙ ((λ i. h.taken i ++ sym items i)
+          ∙ (sym (map-append (λ (t : Tagged). t.item) (all ++ l) s.tags) ∙ ap items_in (append_assoc all l s.tags ∙ ap (λ (x : List Tagged). all ++ x) (sym s.listed)))));
       concern = All-same Concerns l2 (l ++ s.tags) s.listed (All-append Concerns l s.tags h.concern more);
       deeds = λ n low.
           let d = adds_all config a w.number told n low (progress_of w) s.items s.tags (progress_of w2) learned s.served in
@@ -158,75 +162,94 @@ accounts_more config a w w2 l l2 s given told learned h =
           ∙ ((λ i. h.deeds n low i ++ d.say i) ∙ (sym (deeds_two n l s.tags) ∙ ap (deeds_at n) (sym s.listed))));
       judged = λ n low.
           let d = adds_all config a w.number told n low (progress_of w) s.items s.tags (progress_of w2) learned s.served in
-          let was = all_judged told w.seen.loads w2.seen.loads (saw_more config a w w2 l l2 s) (token_at n w.shards).own (h.judged n low) in
+          let was = all_judged told w.seen.loads w2.seen.loads saw (token_at n w.shards).own (h.judged n low) in
           All-same (WasJudged told w2.seen.loads) (token_at n w2.shards).own ((token_at n w.shards).own ++ d.entries) d.own
           (All-append (WasJudged told w2.seen.loads) (token_at n w.shards).own d.entries was d.judged);
+      written = λ n low.
+          let d = adds_all config a w.number told n low (progress_of w) s.items s.tags (progress_of w2) learned s.served in
+          let was = h.written n low in
+          record {
+            before = was.before;
+            page = d.page
+                ∙ (ap (λ (x : List Entry). x ++ d.entries) was.page
+                ∙ (append_assoc was.before (token_at n w.shards).own d.entries ∙ ap (λ (x : List Entry). was.before ++ x) (sym d.own)));
+            of_batches = of_more_loads n w.seen.loads w2.seen.loads saw batches was.before was.of_batches;
+          };
     }
 
--- a worker without entries of its own, and without events, which took this many items
-pub accounts_none : (given told : ℕ) (w : Worker) (l : List Tagged) → length (taken_by w.pass) ≡ given → l ≡ [] → ((s : ℕ) → s < 8 → (token_at s w.shards).own ≡ []) → Accounts given told w l
-accounts_none given told w l many empty none =
+-- a worker without entries of its own, and without events, which took the items of these batches
+pub accounts_none : (batches : List Batch) (told : ℕ) (w : Worker) (l : List Tagged) → items_of (taken_by w.pass) ≡ items_in (events_in batches) → l ≡ [] → ((s : ℕ) → s < 8 → (token_at s w.shards).own ≡ [])
+    → ((s : ℕ) → s < 8 → AreOfBatches s w.seen.loads batches (token_at s w.shards).page.made) → Accounts batches told w l
+accounts_none batches told w l items empty none written =
     record {
-      before = taken_by w.pass;
-      first = many;
-      items = [];
-      taken = sym (append-nil (taken_by w.pass));
-      same = ap items_in empty;
+      taken = items ∙ ap items_in (sym (append-nil (events_in batches)) ∙ ap (λ (x : List Tagged). events_in batches ++ x) (sym empty));
       concern = All-same Concerns l [] empty (All-nil Concerns);
       deeds = λ s low. ap (map deed_of) (none s low) ∙ ap (deeds_at s) (sym empty);
       judged = λ s low. All-same (WasJudged told w.seen.loads) (token_at s w.shards).own [] (none s low) (All-nil (WasJudged told w.seen.loads));
+      written = λ s low.
+          let made : List Entry = (token_at s w.shards).page.made in
+          record { before = made; page = sym (append-nil made) ∙ ap (λ (x : List Entry). made ++ x) (sym (none s low)); of_batches = written s low };
     }
 
--- a worker that took nothing more, has seen the same loads, and has the same entries of its own
-pub accounts_same : (given told : ℕ) (w w2 : Worker) (l : List Tagged) → taken_by w2.pass ≡ taken_by w.pass → w2.seen ≡ w.seen → ((s : ℕ) → s < 8 → (token_at s w2.shards).own ≡ (token_at s w.shards).own)
-    → Accounts given told w l → Accounts given told w2 l
-accounts_same given told w w2 l taken saw same h =
+-- what is on the pages of a worker is of its batches, with one more of its events
+pub written_more : (batches : List Batch) (worker told : ℕ) (w : Worker) (l : List Tagged) → Accounts batches told w l
+    → (s : ℕ) → s < 8 → AreOfBatches s w.seen.loads (batches ++ record { worker = worker; told = told; events = l } ∷ []) (token_at s w.shards).page.made
+written_more batches worker told w l h s low =
+    let was = h.written s low in
+    let b : Batch = record { worker = worker; told = told; events = l } in
+    subst (λ (es : List Entry). AreOfBatches s w.seen.loads (batches ++ b ∷ []) es) (sym was.page)
+    (of_one_more s w.seen.loads batches b was.before (token_at s w.shards).own was.of_batches (record { deeds = h.deeds s low; judged = h.judged s low }))
+
+-- a worker that took nothing more, has seen the same loads, and has the same entries of its own, and on its pages
+pub accounts_same : (batches : List Batch) (told : ℕ) (w w2 : Worker) (l : List Tagged) → taken_by w2.pass ≡ taken_by w.pass → w2.seen ≡ w.seen → ((s : ℕ) → s < 8 → (token_at s w2.shards).own ≡ (token_at s w.shards).own)
+    → ((s : ℕ) → s < 8 → (token_at s w2.shards).page ≡ (token_at s w.shards).page) → Accounts batches told w l → Accounts batches told w2 l
+accounts_same batches told w w2 l taken saw same pages h =
     record {
-      before = h.before;
-      first = h.first;
-      items = h.items;
-      taken = taken ∙ h.taken;
-      same = h.same;
+      taken = ap items_of taken ∙ h.taken;
       concern = h.concern;
       deeds = λ s low. ap (map deed_of) (same s low) ∙ h.deeds s low;
       judged = λ s low.
           subst (λ (b : Beginning). All (WasJudged told b.loads) (token_at s w2.shards).own) (sym saw)
           (All-same (WasJudged told w.seen.loads) (token_at s w2.shards).own (token_at s w.shards).own (same s low) (h.judged s low));
+      written = λ s low.
+          let was = h.written s low in
+          record {
+            before = was.before;
+            page = ap (λ (p : Page). p.made) (pages s low) ∙ (was.page ∙ ap (λ (x : List Entry). was.before ++ x) (sym (same s low)));
+            of_batches = subst (λ (b : Beginning). AreOfBatches s b.loads batches was.before) (sym saw) was.of_batches;
+          };
     }
-
--- how many items the worker took in all
-pub taken_length : (given told : ℕ) (w : Worker) (l : List Tagged) → Accounts given told w l → length (taken_by w.pass) ≡ given + length l
-taken_length given told w l h =
-    let many : length l ≡ length h.items = sym (length-map l (λ (t : Tagged). t.item)) ∙ (ap length h.same ∙ length-map h.items (λ (x : Queued). x.item)) in
-    ap length h.taken ∙ (length-append h.before h.items ∙ (λ i. h.first i + sym many i))
-
--- a worker that took all that was put took as many items
-pub all_taken : (puts : List (List Item)) (given told many worker : ℕ) (w : Worker) (l : List Tagged) → worker ≡ w.number → many ≡ given + length l → TookAllOf puts w → Accounts given told w l
-    → many ≡ length (slice_index_or puts worker [])
-all_taken puts given told many worker w l number sum t h =
-    let put : length (slice_index_or puts w.number []) ≡ length (taken_by w.pass) = ap length t.put ∙ length-map (taken_by w.pass) (λ (x : Queued). x.item) in
-    sum ∙ (sym (taken_length given told w l h) ∙ (sym put ∙ ap (λ (k : ℕ). length (slice_index_or puts k [])) (sym number)))
 
 -- without events, no entry is the worker's own
 no_deed : (es : List Entry) → map deed_of es ≡ [] → es ≡ []
 no_deed [] is = refl
 no_deed (e ∷ es) is = absurd (cc is)
 
-pub accounts_empty : (given told : ℕ) (w : Worker) (l : List Tagged) → l ≡ [] → Accounts given told w l → (s : ℕ) → s < 8 → (token_at s w.shards).own ≡ []
-accounts_empty given told w l empty h s low = no_deed (token_at s w.shards).own (h.deeds s low ∙ ap (deeds_at s) empty)
+pub accounts_empty : (batches : List Batch) (told : ℕ) (w : Worker) (l : List Tagged) → l ≡ [] → Accounts batches told w l → (s : ℕ) → s < 8 → (token_at s w.shards).own ≡ []
+accounts_empty batches told w l empty h s low = no_deed (token_at s w.shards).own (h.deeds s low ∙ ap (deeds_at s) empty)
+
+-- a worker without events that has seen more loads
+pub accounts_told : (batches : List Batch) (told told2 : ℕ) (w w2 : Worker) (l : List Tagged) → w2 ≡ record w { seen = w2.seen } → IsPrefix w.seen.loads w2.seen.loads → l ≡ [] → Accounts batches told w l → Accounts batches told2 w2 l
+accounts_told batches told told2 w w2 l same more empty h =
+    let shards : w2.shards ≡ w.shards = ap (λ (x : Worker). x.shards) same in
+    let unowned : (s : ℕ) → s < 8 → (token_at s w2.shards).own ≡ [] = λ s low. ap (λ (e : Eight). (token_at s e).own) shards ∙ accounts_empty batches told w l empty h s low in
+    record {
+      taken = ap (λ (x : Worker). items_of (taken_by x.pass)) same ∙ h.taken;
+      concern = h.concern;
+      deeds = λ s low. ap (λ (e : Eight). map deed_of (token_at s e).own) shards ∙ h.deeds s low;
+      judged = λ s low. All-same (WasJudged told2 w2.seen.loads) (token_at s w2.shards).own [] (unowned s low) (All-nil (WasJudged told2 w2.seen.loads));
+      written = λ s low.
+          let was = h.written s low in
+          record {
+            before = was.before;
+            page = ap (λ (e : Eight). (token_at s e).page.made) shards ∙ (was.page ∙ ap (λ (e : Eight). was.before ++ (token_at s e).own) (sym shards));
+            of_batches = of_more_loads s w.seen.loads w2.seen.loads more batches was.before was.of_batches;
+          };
+    }
 
 -- events of a worker that took all that was put
-pub of_queue : (puts : List (List Item)) (counts : List ℕ) (given told worker : ℕ) (w : Worker) (l : List Tagged) → worker ≡ w.number → worker < length counts → slice_index_or counts worker 0 ≡ given
-    → TookAllOf puts w → Accounts given told w l → AreOfQueue worker puts counts l
-of_queue puts counts given told worker w l number below agrees t h =
-    let both : items_of (taken_by w.pass) ≡ items_of h.before ++ items_in l =
-    ap items_of h.taken ∙ (map-append (λ (x : Queued). x.item) h.before h.items ∙ ap (λ (x : List Item). items_of h.before ++ x) (sym h.same)) in
-    record {
-      below = below;
-      before = items_of h.before;
-      first = length-map h.before (λ (x : Queued). x.item) ∙ (h.first ∙ sym agrees);
-      put = ap (λ (k : ℕ). slice_index_or puts k []) number ∙ (t.put ∙ both);
-    }
+pub of_queue : (puts : List (List Item)) (told worker : ℕ) (batches : List Batch) (w : Worker) (l : List Tagged) → worker ≡ w.number → TookAllOf puts w → Accounts (batches_of worker batches) told w l → AreOfQueue worker puts batches l
+of_queue puts told worker batches w l number t h = ap (λ (k : ℕ). slice_index_or puts k []) number ∙ (t.put ∙ h.taken)
 
 -- the same worker with other tokens of the shards
 took_same : (puts : List (List Item)) (w : Worker) (e : Eight) → TookAllOf puts w → TookAllOf puts (record w { shards = e })
@@ -254,9 +277,22 @@ new_unowned a u n =
 pub renewed_unowned : (a u : Eight) → AreRenewed a u → (s : ℕ) → s < 8 → (token_at s u).own ≡ []
 renewed_unowned a u r = by_shard (λ s. (token_at s u).own ≡ []) r.0.own r.1.own r.2.own r.3.own r.4.own r.5.own r.6.own r.7.own
 
+-- whose pages are as they were
+pub renewed_pages : (a u : Eight) → AreRenewed a u → (s : ℕ) → s < 8 → (token_at s u).page ≡ (token_at s a).page
+renewed_pages a u r = by_shard (λ s. (token_at s u).page ≡ (token_at s a).page) r.0.page r.1.page r.2.page r.3.page r.4.page r.5.page r.6.page r.7.page
+
 -- whoever only saw more has the same
 pub kept_own : (a b : Eight) → KeepOwn a b → (s : ℕ) → s < 8 → (token_at s b).own ≡ (token_at s a).own
 kept_own a b k = by_shard (λ s. (token_at s b).own ≡ (token_at s a).own) k.0.own k.1.own k.2.own k.3.own k.4.own k.5.own k.6.own k.7.own
+
+pub kept_pages : (a b : Eight) → KeepOwn a b → (s : ℕ) → s < 8 → (token_at s b).page ≡ (token_at s a).page
+kept_pages a b k = by_shard (λ s. (token_at s b).page ≡ (token_at s a).page) k.0.page k.1.page k.2.page k.3.page k.4.page k.5.page k.6.page k.7.page
+
+-- the pages of a new token are empty
+pub new_unwritten : (a u : Eight) → IsNewcomer a u → (s : ℕ) → s < 8 → (token_at s u).page.made ≡ []
+new_unwritten a u n =
+    by_shard (λ s. (token_at s u).page.made ≡ []) (ap (λ (t : Token). t.page.made) n.0) (ap (λ (t : Token). t.page.made) n.1) (ap (λ (t : Token). t.page.made) n.2) (ap (λ (t : Token). t.page.made) n.3)
+    (ap (λ (t : Token). t.page.made) n.4) (ap (λ (t : Token). t.page.made) n.5) (ap (λ (t : Token). t.page.made) n.6) (ap (λ (t : Token). t.page.made) n.7)
 
 -- ---- histories
 

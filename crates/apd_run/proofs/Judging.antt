@@ -1,5 +1,6 @@
 -- Verdicts of accepted programs.
-use Rattle.std.proofs.Common.{◌≡◌, ℕ, Option, Some, None, List, [], ◌∷◌, inl, inr, refl}
+use Rattle.std.proofs.Common.{◌≡◌, ℕ, Option, Some, None, List, [], ◌∷◌, get_or, inl, inr, refl}
+use Rattle.std.specs.List.{All}
 use Rattle.std.proofs.lemmas.List.Elements.{All-cons, All-nil}
 use Rattle.bpf_machine.specs.Verified.{Verified}
 use Rattle.hook_judge.specs.Counted.{Counted}
@@ -7,9 +8,20 @@ use Rattle.hook_judge.specs.Verdicts.{GivesVerdict, VerdictOf}
 use Rattle.versions.specs.declared.list.Load.{Load}
 use Rattle.versions.specs.Numbers.{number_at, numbers_of}
 use Rattle.versions.specs.Sets.{Programs, program_at, set_of}
+use mathlib.Core.List.{IsPrefix}
 use Rattle.ap_model.specs.Asks.{Ask, Answered}
+use Rattle.ap_model.specs.Runs.{Entry}
 use Rattle.ap_live.specs.Lives.{Live}
 use Rattle.ap_live.specs.Verdicts.{AreJudged, IsJudged}
+use Rattle.versions.proofs.Beginnings.{prefix_trans}
+use Rattle.apd_run.specs.Deciding.{WasJudged}
+
+-- these verdicts go by more loads, if more were published
+judged_more : (least : ℕ) (xs ys : List Load) → IsPrefix xs ys → (e : Entry) → WasJudged least xs e → WasJudged least ys e
+judged_more least xs ys p e j = record { loads = j.loads; first = prefix_trans j.loads xs ys j.first p; many = j.many; judged = j.judged }
+
+pub all_judged : (least : ℕ) (xs ys : List Load) → IsPrefix xs ys → (es : List Entry) → All (WasJudged least xs) es → All (WasJudged least ys) es
+all_judged least xs ys p es all k d low = judged_more least xs ys p (get_or es k d) (all k d low)
 
 module _ (a : Live) (worker clock stations : ℕ) where
   judged_one : (programs : Programs) (load : ℕ) (h h' : Counted) (ask : Ask) (verdict steps : ℕ) (p : Option Verified) → program_at ask.hook programs ≡ p

@@ -3,11 +3,13 @@ pub mod Putting
 pub mod Sums
 pub mod Numbering
 pub mod Judging
+pub mod Batches
 pub mod Deciding
 pub mod Served
 pub mod Keeping
 pub mod Operated
 pub mod NewRuns
+pub mod Returning
 pub mod Captured
 pub mod Loading
 pub mod OneByOne

@@ -1,6 +1,5 @@
 -- What an operator's calls do to what contracts see of it.
-use Rattle.std.proofs.Common.{◌≡◌, ◌+◌, ◌-◌, ◌<◌, ◌≤◌, ℕ, zero, suc, Bool, List, Option, Some, None, length, refl, slice_set, sym, ap, subst, ◌∙◌, arith, add-zero}
-use Rattle.std.specs.Prelude.{slice_index_or}
+use Rattle.std.proofs.Common.{◌≡◌, ◌+◌, ◌-◌, ◌<◌, ◌≤◌, ℕ, zero, suc, Bool, List, [], ◌∷◌, ◌++◌, Option, Some, None, length, refl, slice_set, sym, ap, subst, ◌∙◌, arith, add-zero}
 use Rattle.bpf_regions.specs.declared.hooks.Hook.{Hook}
 use Rattle.versions.specs.Lists.{Beginning, with_load}
 use Rattle.versions.specs.Sets.{load}
@@ -31,6 +30,7 @@ use Rattle.apd_driver.specs.declared.actions.Publication.{Publication}
 use Rattle.apd_driver.specs.declared.actions.WordUse.{WordUse}
 use Rattle.apd_driver.specs.declared.operating.Waiting.{Waiting}
 use Rattle.apd_run.specs.Adopting.{AdoptsFiles}
+use Rattle.apd_run.specs.Batches.{Batch}
 use Rattle.apd_run.specs.Hands.{RunOperator, claims, crew_of, tells, work_of}
 use Rattle.apd_run.specs.Loading.{LoadsFile}
 use Rattle.apd_files.specs.Held.{Held, path_of}
@@ -260,12 +260,12 @@ module _ {F : Type 0} (held : F → Held) where
       ∙ (ap (λ (l : List ℕ). crew_of held (record o { told = l; settled = settled })) (note ∙ (λ i. slice_set o.told (number_is i) (count_is i))) ∙ ap (λ (x : RunOperator F). tells (crew_of held x) number2) is)
 
   -- counts were taken over, and what became of events
-  pub claimed_crew : (o old : RunOperator F) (hoard : Holding) (counted : Counts) (taken : List ℕ) (number many : ℕ) → o ≡ old → sum_of hoard ≡ plus (sum_of o.hoard) counted
-      → taken ≡ slice_set o.taken number (slice_index_or o.taken number 0 + many) → crew_of held (record o { hoard = hoard; taken = taken }) ≡ gains (claims (crew_of held old) number many) counted
-  claimed_crew o old hoard counted taken number many is more note =
-      let crew : crew_of held (record o { hoard = hoard; taken = taken }) ≡ gains (claims (crew_of held o) number many) counted =
-      λ i. record { workers = o.workers; counted = more i; work = record (work_of held o) { taken = note i } } in
-      crew ∙ ap (λ (x : RunOperator F). gains (claims (crew_of held x) number many) counted) is
+  pub claimed_crew : (o old : RunOperator F) (hoard : Holding) (counted : Counts) (batches : List Batch) (b : Batch) → o ≡ old → sum_of hoard ≡ plus (sum_of o.hoard) counted
+      → batches ≡ o.batches ++ b ∷ [] → crew_of held (record o { hoard = hoard; batches = batches }) ≡ gains (claims (crew_of held old) b) counted
+  claimed_crew o old hoard counted batches b is more added =
+      let crew : crew_of held (record o { hoard = hoard; batches = batches }) ≡ gains (claims (crew_of held o) b) counted =
+      λ i. record { workers = o.workers; counted = more i; work = record (work_of held o) { batches = added i } } in
+      crew ∙ ap (λ (x : RunOperator F). gains (claims (crew_of held x) b) counted) is
 
 -- an operator that did nothing
 pub works_same : (c d : Crew live) → d ≡ c → Works c d

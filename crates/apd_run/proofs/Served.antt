@@ -1,5 +1,5 @@
 -- Reports on a worker's list.
-use Rattle.std.proofs.Common.{◌≡◌, ◌<◌, ◌+◌, ℕ, List, [], ◌∷◌, ◌++◌, length, refl, sym, ap, subst, ◌∙◌, zero-add, get_or-set_same}
+use Rattle.std.proofs.Common.{◌≡◌, ◌<◌, ◌+◌, ℕ, List, [], ◌∷◌, ◌++◌, length, refl, sym, ap, subst, ◌∙◌, zero-add}
 use mathlib.Core.List.{IsPrefix}
 use Rattle.std.specs.Prelude.{true, false, None, slice_index_or}
 use Rattle.std.proofs.lemmas.List.Sums.{sum_by-append}
@@ -16,13 +16,16 @@ use Rattle.apd_driver.specs.Crews.{Collects, Crew, Works, gains, with_work}
 use Rattle.apd_driver.specs.Following.{FromNone, FromOneMore, TakesAll}
 use Rattle.std.specs.List.{All}
 use Rattle.versions.specs.Lists.{Beginning}
-use Rattle.apd_run.specs.Deciding.{Accounts, TookAllOf, WasJudged}
+use Rattle.apd_run.specs.Batches.{Batch, batches_of, events_of}
+use Rattle.apd_run.specs.Deciding.{Accounts, TookAllOf, WasJudged, items_in}
 use Rattle.apd_run.specs.Hands.{claims, tells}
 use Rattle.apd_run.specs.Reports.{Handled, Memory, Report}
 use Rattle.apd_driver.specs.Tallies.{report_counts, tallied, told_counts}
 use Rattle.apd_run.specs.Telling.{dropped_in, report_if, reports_in, reports_of, told_of}
-use Rattle.apd_run.specs.Work.{Meets, Takes, Work, live, with_histories, with_taken, with_told}
-use Rattle.apd_run.proofs.Deciding.{all_judged, all_taken, of_queue, took_still}
+use Rattle.apd_run.specs.Work.{Meets, Takes, Work, live, with_batch, with_histories, with_told}
+use Rattle.apd_run.proofs.Batches.{all_of_queue}
+use Rattle.apd_run.proofs.Deciding.{of_queue, took_still}
+use Rattle.apd_run.proofs.Judging.{all_judged}
 use Rattle.apd_run.proofs.Sums.{none_plus, plus_three}
 
 -- ---- what reports count
@@ -63,15 +66,15 @@ told_counted (t ∷ ts) =
     tallied_two (reports_of t) (reports_in ts)
     ∙ (ap (λ (c : Counts). plus c (tallied (reports_in ts))) (report_counted t.item.call t.item.shard t.item.event t.fate) ∙ ap (λ (c : Counts). plus (fate_counts t.fate) c) (told_counted ts))
 
--- a worker was met, its events were claimed, it was told of the loads, and the reports on its list were appended
-pub collects_met : (crew mid crew2 : Crew live) (list list2 : List Report) (given told worker : ℕ) (w : Worker) (tags : List Tagged) → worker ≡ w.number → TookAllOf crew.work.puts w → Works crew mid → Meets crew.work mid.work w
-    → IsPrefix w.seen.loads mid.work.loads.loads → worker < length mid.work.taken → slice_index_or mid.work.taken worker 0 ≡ given → slice_index_or mid.work.told worker 0 ≡ told → Accounts given told w tags
-    → crew2 ≡ gains (with_work mid (with_told (with_taken mid.work worker (length tags)) worker)) (tally tags) → list2 ≡ list ++ reports_in tags → Collects crew crew2 list list2
-collects_met crew mid crew2 list list2 given told worker w tags number took works m seen_loads below agrees knows h counted listed =
-    let last : Work = with_told (with_taken mid.work worker (length tags)) worker in
+-- a worker was met, its batch was claimed, it was told of the loads, and the reports on its events were appended
+pub collects_met : (crew mid crew2 : Crew live) (list list2 : List Report) (told worker : ℕ) (w : Worker) (tags : List Tagged) → worker ≡ w.number → TookAllOf crew.work.puts w → Works crew mid → Meets crew.work mid.work w
+    → IsPrefix w.seen.loads mid.work.loads.loads → worker < length mid.work.told → slice_index_or mid.work.told worker 0 ≡ told → Accounts (batches_of worker mid.work.batches) told w tags
+    → crew2 ≡ gains (with_work mid (with_told (with_batch mid.work (record { worker = worker; told = told; events = tags })) worker)) (tally tags) → list2 ≡ list ++ reports_in tags → Collects crew crew2 list list2
+collects_met crew mid crew2 list list2 told worker w tags number took works m seen_loads below knows h counted listed =
+    let last : Work = with_told (with_batch mid.work (record { worker = worker; told = told; events = tags })) worker in
     let same : crew2.work ≡ last = ap (λ (c : Crew live). c.work) counted in
     let seen : mid.work ≡ with_histories crew.work mid.work.histories = m.sees.others in
-    let kept : mid.work.taken ≡ crew.work.taken = ap (λ (x : Work). x.taken) seen in
+    let kept : mid.work.batches ≡ crew.work.batches = ap (λ (x : Work). x.batches) seen in
     let loads : mid.work.loads ≡ crew.work.loads = ap (λ (x : Work). x.loads) seen in
     let least : told ≡ slice_index_or crew.work.told worker 0 = sym knows ∙ ap (λ (x : Work). slice_index_or x.told worker 0) seen in
     let judged : (s : ℕ) → s < 8 → All (WasJudged (slice_index_or crew.work.told worker 0) crew.work.loads.loads) (token_at s w.shards).own =
@@ -83,11 +86,12 @@ collects_met crew mid crew2 list list2 given told worker w tags number took work
       worker = worker;
       events = tags;
       told = refl;
-      queued = of_queue crew.work.puts crew.work.taken given told worker w tags number (subst (λ (l : List ℕ). worker < length l) kept below) (ap (λ (l : List ℕ). slice_index_or l worker 0) (sym kept) ∙ agrees) took h;
+      below = subst (λ (x : Work). worker < length x.told) seen below;
+      queued = of_queue crew.work.puts told worker crew.work.batches w tags number took (subst (λ (l : List Batch). Accounts (batches_of worker l) told w tags) kept h);
       concern = h.concern;
       decided = λ s low. record { entries = (token_at s w.shards).own; deeds = h.deeds s low; judged = judged s low; among = m.among s low };
       holds = m.holds;
-      sees = record { others = ap (λ (x : Work). with_told (with_taken x worker (length tags)) worker) seen; go_on = m.sees.go_on };
+      sees = record { others = λ i. with_told (with_batch (seen i) (record { worker = worker; told = least i; events = tags })) worker; go_on = m.sees.go_on };
     } in
     record {
       reports = reports_in tags;
@@ -98,23 +102,27 @@ collects_met crew mid crew2 list list2 given told worker w tags number took work
           ∙ (ap (λ (x : Work). with_work (gains crew (tally tags)) x) (sym same) ∙ ap (λ (c : Counts). with_work (gains crew c) crew2.work) (sym (told_counted tags))));
     }
 
--- a worker's events were claimed, and then it was told of the loads
-pub told_after : (mid after crew2 : Crew live) (worker number many : ℕ) (counts : Counts) → after ≡ gains (claims mid worker many) counts → number ≡ worker → crew2 ≡ tells after number
-    → crew2 ≡ gains (with_work mid (with_told (with_taken mid.work worker many) worker)) counts
-told_after mid after crew2 worker number many counts claimed is told = told ∙ (λ i. tells (claimed i) (is i))
+-- a batch was claimed, and then its worker was told of the loads
+pub told_after : (mid after crew2 : Crew live) (b : Batch) (number : ℕ) (counts : Counts) → after ≡ gains (claims mid b) counts → number ≡ b.worker → crew2 ≡ tells after number
+    → crew2 ≡ gains (with_work mid (with_told (with_batch mid.work b) b.worker)) counts
+told_after mid after crew2 b number counts claimed is told = told ∙ (λ i. tells (claimed i) (is i))
 
 -- of how many loads it had been told before
-pub knew_before : (mid after : Crew live) (worker number many : ℕ) (counts : Counts) (told was : ℕ) → after ≡ gains (claims mid worker many) counts → number ≡ worker → slice_index_or after.work.told number 0 ≡ told → told ≡ was
-    → slice_index_or mid.work.told worker 0 ≡ was
-knew_before mid after worker number many counts told was claimed is agrees kept = (λ i. slice_index_or ((sym claimed i).work.told) (sym is i) 0) ∙ (agrees ∙ kept)
+pub knew_before : (mid after : Crew live) (b : Batch) (number : ℕ) (counts : Counts) (told was : ℕ) → after ≡ gains (claims mid b) counts → number ≡ b.worker → slice_index_or after.work.told number 0 ≡ told → told ≡ was
+    → slice_index_or mid.work.told b.worker 0 ≡ was
+knew_before mid after b number counts told was claimed is agrees kept = (λ i. slice_index_or ((sym claimed i).work.told) (sym is i) 0) ∙ (agrees ∙ kept)
+
+-- its number
+pub low_before : (mid after : Crew live) (b : Batch) (number : ℕ) (counts : Counts) → after ≡ gains (claims mid b) counts → number ≡ b.worker → number < length after.work.told → b.worker < length mid.work.told
+low_before mid after b number counts claimed is below = subst (λ (k : ℕ). k < length mid.work.told) is (subst (λ (c : Crew live). number < length c.work.told) claimed below)
 
 -- the same after what changed nothing more
-pub collects_seen : (crew mid seen crew2 : Crew live) (list list2 : List Report) (given told worker : ℕ) (w : Worker) (tags : List Tagged) → seen ≡ mid → worker ≡ w.number → TookAllOf crew.work.puts w → Works crew mid → Meets crew.work mid.work w
-    → IsPrefix w.seen.loads mid.work.loads.loads → worker < length seen.work.taken → slice_index_or seen.work.taken worker 0 ≡ given → slice_index_or seen.work.told worker 0 ≡ told → Accounts given told w tags
-    → crew2 ≡ gains (with_work seen (with_told (with_taken seen.work worker (length tags)) worker)) (tally tags) → list2 ≡ list ++ reports_in tags → Collects crew crew2 list list2
-collects_seen crew mid seen crew2 list list2 given told worker w tags same number took works m known below agrees knows h counted listed =
-    collects_met crew seen crew2 list list2 given told worker w tags number took (subst (λ (c : Crew live). Works crew c) (sym same) works) (subst (λ (c : Crew live). Meets crew.work c.work w) (sym same) m)
-    (subst (λ (c : Crew live). IsPrefix w.seen.loads c.work.loads.loads) (sym same) known) below agrees knows h counted listed
+pub collects_seen : (crew mid seen crew2 : Crew live) (list list2 : List Report) (told worker : ℕ) (w : Worker) (tags : List Tagged) → seen ≡ mid → worker ≡ w.number → TookAllOf crew.work.puts w → Works crew mid → Meets crew.work mid.work w
+    → IsPrefix w.seen.loads mid.work.loads.loads → worker < length seen.work.told → slice_index_or seen.work.told worker 0 ≡ told → Accounts (batches_of worker seen.work.batches) told w tags
+    → crew2 ≡ gains (with_work seen (with_told (with_batch seen.work (record { worker = worker; told = told; events = tags })) worker)) (tally tags) → list2 ≡ list ++ reports_in tags → Collects crew crew2 list list2
+collects_seen crew mid seen crew2 list list2 told worker w tags same number took works m known below knows h counted listed =
+    collects_met crew seen crew2 list list2 told worker w tags number took (subst (λ (c : Crew live). Works crew c) (sym same) works) (subst (λ (c : Crew live). Meets crew.work c.work w) (sym same) m)
+    (subst (λ (c : Crew live). IsPrefix w.seen.loads c.work.loads.loads) (sym same) known) below knows h counted listed
 
 -- a worker that was met took all that was put
 pub took_met : (work : Work) (mid seen : Crew live) (w w2 : Worker) → Meets work mid.work w2 → seen ≡ mid → w2 ≡ record w { shards = w2.shards } → TookAllOf work.puts w → TookAllOf seen.work.puts w2
@@ -123,13 +131,13 @@ took_met work mid seen w w2 m same still t =
     subst (λ (l : List (List Item)). TookAllOf l w2) (sym puts) (took_still work.puts w w2 still t)
 
 -- then all that was put into its queue was taken over
-pub whole_after : (seen after : Crew live) (worker number given told : ℕ) (counts : Counts) (w : Worker) (tags : List Tagged) → after ≡ gains (claims seen worker (length tags)) counts → number ≡ worker → worker ≡ w.number
-    → worker < length seen.work.taken → slice_index_or seen.work.taken worker 0 ≡ given → TookAllOf seen.work.puts w → Accounts given told w tags
-    → slice_index_or after.work.taken number 0 ≡ length (slice_index_or after.work.puts number [])
-whole_after seen after worker number given told counts w tags claimed is own low agrees took h =
-    let many : ℕ = slice_index_or seen.work.taken worker 0 + length tags in
-    let all : many ≡ length (slice_index_or seen.work.puts worker []) = all_taken seen.work.puts given told many worker w tags own (ap (λ (n : ℕ). n + length tags) agrees) took h in
-    (λ i. slice_index_or ((claimed i).work.taken) (is i) 0) ∙ (get_or-set_same seen.work.taken worker many 0 low ∙ (all ∙ (λ i. length (slice_index_or ((sym claimed i).work.puts) (sym is i) []))))
+pub whole_after : (seen after : Crew live) (worker number told : ℕ) (counts : Counts) (w : Worker) (tags : List Tagged) → after ≡ gains (claims seen (record { worker = worker; told = told; events = tags })) counts → number ≡ worker
+    → worker ≡ w.number → TookAllOf seen.work.puts w → Accounts (batches_of worker seen.work.batches) told w tags
+    → slice_index_or after.work.puts number [] ≡ items_in (events_of number after.work.batches)
+whole_after seen after worker number told counts w tags claimed is own took h =
+    let b : Batch = record { worker = worker; told = told; events = tags } in
+    subst (λ (c : Crew live). slice_index_or c.work.puts number [] ≡ items_in (events_of number c.work.batches)) (sym claimed)
+    (all_of_queue seen.work.puts number seen.work.batches b (sym is) (of_queue seen.work.puts told worker seen.work.batches w tags own took h))
 
 -- the same after nothing changed
 pub collects_after : (crew crew1 crew2 : Crew live) (list list2 : List Report) → crew1 ≡ crew → Collects crew1 crew2 list list2 → Collects crew crew2 list list2

@@ -1,7 +1,8 @@
 -- Sums of counts.
-use Rattle.std.proofs.Common.{◌≡◌, ◌+◌, ◌<◌, ℕ, ap, ◌∙◌, arith}
+use Rattle.std.proofs.Common.{◌≡◌, ◌+◌, ◌<◌, ℕ, [], ◌∷◌, ap, ◌∙◌, arith}
 use Rattle.ap_books.specs.Counts.{Counts, none, plus}
 use Rattle.ap_books.specs.Holdings.{Holding, HasParts, HasMoreThan, HasSplit, HasMerged, sum_of}
+use Rattle.ap_shards.specs.Pages.{pages_of}
 use Rattle.ap_shards.specs.Renewal.{AreFresh}
 use Rattle.ap_shards.specs.Tokens.{Eight, HasGivenOne, holding_of}
 use Rattle.ap_live.specs.Counting.{KeepParts, counted_by}
@@ -92,6 +93,20 @@ pub given_none : (a b : Eight) → HasGivenOne a b → counted_by b ≡ counted_
 given_none a b g i =
     plus (plus (plus (plus (plus (plus (plus (g.0.counts i) (g.1.counts i)) (g.2.counts i)) (g.3.counts i)) (g.4.counts i)) (g.5.counts i))
     (g.6.counts i)) (g.7.counts i)
+
+-- the pages are as they were
+pub given_pages : (a b : Eight) → HasGivenOne a b → pages_of b ≡ pages_of a
+given_pages a b g i =
+    record {
+      of0 = g.0.page i ∷ [];
+      of1 = g.1.page i ∷ [];
+      of2 = g.2.page i ∷ [];
+      of3 = g.3.page i ∷ [];
+      of4 = g.4.page i ∷ [];
+      of5 = g.5.page i ∷ [];
+      of6 = g.6.page i ∷ [];
+      of7 = g.7.page i ∷ [];
+    }
 
 -- as many parts as before
 pub keeps_parts : (n : ℕ) (a b : Eight) → KeepParts a b → HasParts n (holding_of a) → HasParts n (holding_of b)

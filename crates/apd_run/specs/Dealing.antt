@@ -2,6 +2,7 @@
 use Rattle.std.specs.Prelude.{◌≡◌, ◌+◌, ◌<◌, ◌≤◌, ℕ, List, [], ◌∷◌, length}
 use Rattle.std.specs.List.{All}
 use Rattle.ap_books.specs.Counts.{none}
+use Rattle.ap_locked.specs.Pages.{Page}
 use Rattle.ap_books.specs.Holdings.{Holding, HasParts, sum_of}
 use Rattle.ap_shards.specs.Tokens.{holding_of}
 use Rattle.ap_queues.specs.Passes.{taken_by}
@@ -18,19 +19,27 @@ pub record AreRest (a : Live) (left : LinePasses) : Type 0 where
   pub passes : ArePassesOf a.queues left
   pub alone : HaveMade 1 left
 
--- an operator's token with one part of each ledger, which has counted nothing, and has put nothing into any queue
+-- nothing is written on the page
+abbrev pub IsUnused : Page → Type 0
+IsUnused p = p.made ≡ []
+
+-- an operator's token with one part of each ledger, which has counted nothing, and empty pages; it has put nothing into any
+-- queue
 pub record IsNewOperator (a : Live) (o : Operator) : Type 0 where
   pub own : IsOperator a o
   pub unput : HasPutNothing a.queues o.lines
   pub parts : HasParts 1 (holding_of o.shards)
   pub nothing : counted_by o.shards ≡ none
+  pub unwritten : (s : ℕ) → s < 8 → IsUnused (token_at s o.shards).page
 
--- a worker's token with one part of each ledger, which has counted nothing; it took nothing, and has no entries of its own
+-- a worker's token with one part of each ledger, which has counted nothing, and empty pages; it took nothing, and has no entries
+-- of its own
 pub record IsNewWorker (w : Worker) : Type 0 where
   pub parts : HasParts 1 (holding_of w.shards)
   pub nothing : counted_by w.shards ≡ none
   pub untaken : taken_by w.pass ≡ []
   pub unowned : (s : ℕ) → s < 8 → (token_at s w.shards).own ≡ []
+  pub unwritten : (s : ℕ) → s < 8 → IsUnused (token_at s w.shards).page
 
 -- the workers' numbers count up from this one
 abbrev pub AreNumberedFrom : ℕ → List Worker → Type 0

@@ -8,11 +8,10 @@ use Rattle.ap_model.specs.Drops.{drops}
 use Rattle.ap_model.specs.Readings.{Config}
 use Rattle.ap_model.specs.Runs.{Entry}
 use Rattle.ap_core.specs.Handles.{rules}
-use Rattle.ap_locked.specs.Tokens.{AreHandled, IsAmong}
+use Rattle.ap_locked.specs.Tokens.{AreHandled, IsAmong, Token}
 use Rattle.ap_queues.specs.Items.{IsTold, Item}
 use Rattle.ap_queues.specs.Passes.{taken_by}
 use Rattle.ap_queues.specs.Queues.{items_of}
-use Rattle.ap_queues.specs.declared.item.Queued.{Queued}
 use Rattle.versions.specs.declared.list.Load.{Load}
 use Rattle.versions.specs.Sets.{set_of}
 use Rattle.ap_shards.specs.Tokens.{Eight}
@@ -22,6 +21,7 @@ use Rattle.ap_live.specs.Tokens.{Worker}
 use Rattle.ap_live.specs.Upholding.{token_at}
 use Rattle.ap_live.specs.Verdicts.{AreJudged}
 use Rattle.ap_live.specs.declared.tagged.Tagged.{Tagged}
+use Rattle.apd_run.specs.Batches.{Batch, events_in, events_of}
 
 -- a decided event, what it led to, and whether a verdict dropped its data
 pub record Deed : Type 0 where
@@ -53,13 +53,9 @@ items_in events = map (λ (t : Tagged). t.item) events
 pub record TookAllOf (puts : List (List Item)) (w : Worker) : Type 0 where
   pub put : slice_index_or puts w.number [] ≡ items_of (taken_by w.pass)
 
--- The events are of all items that were put into this worker's queue and not taken over before, in order, if these were put
--- into each worker's, and this many of each were taken over before.
-pub record AreOfQueue (worker : ℕ) (puts : List (List Item)) (taken : List ℕ) (events : List Tagged) : Type 0 where
-  pub below : worker < length taken
-  pub before : List Item
-  pub first : length before ≡ slice_index_or taken worker 0
-  pub put : slice_index_or puts worker [] ≡ before ++ items_in events
+-- the events are of all items that were put into this worker's queue, in order, after those of earlier batches
+abbrev pub AreOfQueue : ℕ → List (List Item) → List Batch → List Tagged → Type 0
+AreOfQueue worker puts batches events = slice_index_or puts worker [] ≡ items_in (events_of worker batches ++ events)
 
 -- an event that concerns the shard at which it was handled
 abbrev pub Concerns : Tagged → Type 0
@@ -73,18 +69,33 @@ pub record WasJudged (least : ℕ) (published : List Load) (e : Entry) : Type 0 
   pub many : least ≤ length loads
   pub judged : AreJudged (set_of loads) e.asked
 
--- The events are of the last items that the worker took, in order, after this many others, and each concerns its shard. What
--- is told of those that were decided at a shard is, in order, what the token's own entries there say, whose verdicts are of
+-- These entries are a batch's at this shard: they say, in order, what is told of its events that were decided there, and their
+-- verdicts are of programs in which the first of these loads result, at least those of which the worker had been told.
+pub record AreOfBatch (s : ℕ) (published : List Load) (b : Batch) (entries : List Entry) : Type 0 where
+  pub deeds : map deed_of entries ≡ deeds_at s b.events
+  pub judged : All (WasJudged b.told published) entries
+
+-- the same of batches, one after another
+abbrev pub AreOfBatches : ℕ → List Load → List Batch → List Entry → Type 0
+AreOfBatches s published [] entries = entries ≡ []
+AreOfBatches s published (b ∷ batches) entries =
+    (first : List Entry) × (others : List Entry) × (entries ≡ first ++ others) × AreOfBatch s published b first × AreOfBatches s published batches others
+
+-- on the token's page are the entries of these batches, and behind them its own
+pub record HasWritten (s : ℕ) (published : List Load) (batches : List Batch) (t : Token) : Type 0 where
+  pub before : List Entry
+  pub page : t.page.made ≡ before ++ t.own
+  pub of_batches : AreOfBatches s published batches before
+
+-- The worker took the items of these batches and then of these events, in order, and each event concerns its shard. What is
+-- told of those that were decided at a shard is, in order, what the token's own entries there say, whose verdicts are of
 -- programs in which loads result that the worker has seen, at least as many as it had been told of.
-pub record Accounts (given told : ℕ) (w : Worker) (events : List Tagged) : Type 0 where
-  pub before : List Queued
-  pub first : length before ≡ given
-  pub items : List Queued
-  pub taken : taken_by w.pass ≡ before ++ items
-  pub same : items_in events ≡ items_of items
+pub record Accounts (batches : List Batch) (told : ℕ) (w : Worker) (events : List Tagged) : Type 0 where
+  pub taken : items_of (taken_by w.pass) ≡ items_in (events_in batches ++ events)
   pub concern : All Concerns events
   pub deeds : (s : ℕ) → s < 8 → map deed_of (token_at s w.shards).own ≡ deeds_at s events
   pub judged : (s : ℕ) → s < 8 → All (WasJudged told w.seen.loads) (token_at s w.shards).own
+  pub written : (s : ℕ) → s < 8 → HasWritten s w.seen.loads batches (token_at s w.shards)
 
 -- What is told of the events that were decided at this shard is, in order, what entries of this history say, each at a
 -- position of its own; their verdicts are of programs in which the first of these loads result, at least this many.

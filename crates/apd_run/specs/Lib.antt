@@ -4,10 +4,12 @@ pub mod Reports
 pub mod Telling
 pub mod InForce
 pub mod Listing
+pub mod Batches
 pub mod Deciding
 pub mod Words
 pub mod Work
 pub mod Hands
+pub mod Returning
 pub mod NewRuns
 pub mod Captured
 pub mod Dealing

@@ -36,7 +36,7 @@ pub record IsNewCrew (files : Held) (limits : Limits) (plan : Plan) (c : Crew li
   pub link_is : c.work.config ≡ plan.link
   pub maps_are : shapes_of c.work.maps ≡ plan.maps
   pub unput : c.work.puts ≡ replicate c.workers []
-  pub untaken : c.work.taken ≡ replicate 8 0
+  pub untaken : c.work.batches ≡ []
   pub untold : c.work.told ≡ replicate 8 0
   pub no_loads : c.work.loads.loads ≡ []
 

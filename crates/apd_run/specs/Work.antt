@@ -1,5 +1,5 @@
 -- What an operator works with, and what it has done so far.
-use Rattle.std.specs.Prelude.{◌≡◌, ◌+◌, ◌<◌, ℕ, List, Option, Some, None, [], length, slice_index_or, slice_set}
+use Rattle.std.specs.Prelude.{◌≡◌, ◌<◌, ◌==◌, ℕ, List, Option, Some, None, [], ◌∷◌, ◌++◌, length, map, slice_index_or, slice_set}
 use Rattle.std.specs.List.{All}
 use mathlib.Core.List.{IsPrefix}
 use Rattle.bpf_regions.specs.declared.hooks.Hook.{Hook}
@@ -11,6 +11,8 @@ use Rattle.versions.specs.Sets.{load}
 use Rattle.ap_model.specs.declared.event.Event.{Event}
 use Rattle.ap_model.specs.Readings.{Config}
 use Rattle.ap_model.specs.Runs.{Entry}
+use Rattle.ap_books.specs.Counts.{Counts, counts_in, plus}
+use Rattle.ap_locked.specs.Pages.{with_first}
 use Rattle.ap_locked.specs.Tokens.{IsAmong}
 use Rattle.ap_queues.specs.Items.{Item}
 use Rattle.ap_queues.specs.Putting.{item, with_item}
@@ -25,14 +27,15 @@ use Rattle.apd_driver.specs.declared.reports.report.Report.{Report}
 use Rattle.apd_driver.specs.declared.reports.report.Told.{Told}
 use Rattle.apd_driver.specs.declared.reports.report.Told.TheVariants.{Memory}
 use Rattle.apd_run.specs.Adopting.{AdoptsFiles}
-use Rattle.apd_run.specs.Deciding.{AreEntries, AreOfQueue, Concerns, IsHistory}
+use Rattle.apd_run.specs.Batches.{Batch, batches_of, events_of}
+use Rattle.apd_run.specs.Deciding.{AreEntries, AreOfBatches, AreOfQueue, Concerns, IsHistory, items_in}
 use Rattle.apd_run.specs.Loading.{LoadsFile}
 use Rattle.apd_run.specs.Telling.{reports_in}
 use Rattle.apd_run.specs.Words.{ReadsWord, StoresWord, SumsWord}
 
 -- what is known of the files of programs, what the verifier or a check may do for each program, the configuration of the
 -- link, the tables of all maps; what the operator's seat at each table knows of its history, what was put into the queue of
--- each worker, in order, of how many of these items it was taken over what became of them, of how many loads each worker was
+-- each worker, in order, the batches in which it was taken over what became of these items, of how many loads each worker was
 -- told then, what the operator knows of each shard's history, and the loads that were published
 pub record Work : Type 0 where
   pub files : Held
@@ -41,7 +44,7 @@ pub record Work : Type 0 where
   pub maps : List Tables
   pub seats : List (List Place)
   pub puts : List (List Item)
-  pub taken : List ℕ
+  pub batches : List Batch
   pub told : List ℕ
   pub histories : ℕ → List Entry
   pub loads : Beginning
@@ -62,9 +65,13 @@ put_at w line e shard = record w { puts = with_item w.puts (item line shard e) }
 abbrev pub with_histories : Work → (ℕ → List Entry) → Work
 with_histories w histories = record w { histories = histories }
 
--- the same after what became of this many more items of a worker's queue was taken over
-abbrev pub with_taken : Work → ℕ → ℕ → Work
-with_taken w worker many = record w { taken = slice_set w.taken worker (slice_index_or w.taken worker 0 + many) }
+-- the same after a batch was taken over
+abbrev pub with_batch : Work → Batch → Work
+with_batch w batch = record w { batches = w.batches ++ batch ∷ [] }
+
+-- a batch of these events of a worker
+abbrev pub batch_from : Work → ℕ → List Tagged → Batch
+batch_from w worker events = record { worker = worker; told = slice_index_or w.told worker 0; events = events }
 
 -- the same after a worker was told of all loads so far
 abbrev pub with_told : Work → ℕ → Work
@@ -94,8 +101,8 @@ pub record Meets (old new : Work) (w : Worker) : Type 0 where
   pub holds : (s : ℕ) → s < 8 → IsHistory s new.config (new.histories s)
   pub among : (s : ℕ) → s < 8 → IsAmong (token_at s w.shards).own (new.histories s)
 
--- What became of a worker's events was taken over, and is what these reports tell. The events are of all items that the
--- operator put into that worker's queue since it took over from it, in order, and each concerns its shard. What is told of
+-- What became of a worker's events was taken over in a batch, and is what these reports tell. The events are of all items that
+-- the operator put into that worker's queue since it took over from it, in order, and each concerns its shard. What is told of
 -- those that were decided at a shard is, in order, what entries of the shard's history say. Their verdicts are of programs in
 -- which the first of the published loads result, at least those of which the worker had been told; then it was told of all.
 -- Each history goes on with what the operator knew of it before, and is a run of the link from nobody on, under the
@@ -104,16 +111,49 @@ pub record Takes (old new : Work) (reports : List Report) : Type 0 where
   pub worker : ℕ
   pub events : List Tagged
   pub told : reports ≡ reports_in events
-  pub queued : AreOfQueue worker old.puts old.taken events
+  pub below : worker < length old.told
+  pub queued : AreOfQueue worker old.puts old.batches events
   pub concern : All Concerns events
   pub decided : (s : ℕ) → s < 8 → AreEntries s (slice_index_or old.told worker 0) old.loads.loads events (new.histories s)
   pub holds : (s : ℕ) → s < 8 → IsHistory s new.config (new.histories s)
-  pub sees : Sees (with_told (with_taken old worker (length events)) worker) new
+  pub sees : Sees (with_told (with_batch old (batch_from old worker events)) worker) new
 
 -- what became of all that was put into each worker's queue was taken over, and each worker was told of all loads
 pub record NoneLeft (w : Work) : Type 0 where
-  pub all_taken : (worker : ℕ) → worker < length w.puts → slice_index_or w.taken worker 0 ≡ length (slice_index_or w.puts worker [])
+  pub all_taken : (worker : ℕ) → worker < length w.puts → slice_index_or w.puts worker [] ≡ items_in (events_of worker w.batches)
   pub all_told : (worker : ℕ) → worker < length w.puts → slice_index_or w.told worker 0 ≡ length w.loads.loads
+
+-- an entry of a history, and the number of the worker that decided it
+pub record Decision : Type 0 where
+  pub worker : ℕ
+  pub entry : Entry
+
+-- the entries without these numbers
+abbrev pub entries_of : List Decision → List Entry
+entries_of history = map (λ (d : Decision). d.entry) history
+
+-- the entries that this worker decided, in order
+abbrev pub decided_by : ℕ → List Decision → List Entry
+decided_by worker [] = []
+decided_by worker (d ∷ later) = with_first (d.worker == worker) d.entry (decided_by worker later)
+
+-- The history is a run of the link at this shard from nobody on, under the configuration. What a worker decided there are, in
+-- order, the entries of its batches, and nothing else.
+pub record IsWhole (s : ℕ) (w : Work) (history : List Decision) : Type 0 where
+  pub holds : IsHistory s w.config (entries_of history)
+  pub each : (worker : ℕ) → AreOfBatches s w.loads.loads (batches_of worker w.batches) (decided_by worker history)
+
+-- what the histories of all shards count
+abbrev pub counts_of_all : (ℕ → List Decision) → Counts
+counts_of_all histories =
+    let at = λ (s : ℕ). counts_in (entries_of (histories s)) in
+    plus (plus (plus (plus (plus (plus (plus (at 0) (at 1)) (at 2)) (at 3)) (at 4)) (at 5)) (at 6)) (at 7)
+
+-- What was taken over is all that was decided: the whole histories of the shards. This is what they count.
+pub record AllTold (counted : Counts) (w : Work) : Type 0 where
+  pub histories : ℕ → List Decision
+  pub whole : (s : ℕ) → s < 8 → IsWhole s w (histories s)
+  pub counts : counted ≡ counts_of_all histories
 
 -- what is said of an operator of a live access point
 abbrev pub live : Semantics
@@ -124,4 +164,5 @@ live = record {
   Takes = λ old new reports. Takes old new reports;
   Sees = λ old new. Sees old new;
   NoneLeft = λ work. NoneLeft work;
+  AllTold = λ counted work. AllTold counted work;
 }

@@ -2,16 +2,19 @@
 //!
 //! Main call: `run_live`. It depends on `ap_live`, `apd_driver` and `loads`. A worker of the run serves the queue of one
 //! worker of the access point by `LiveAp::serve`, and keeps what became of each event. The operator submits events, loads
-//! and unloads programs and reads maps. What it takes over from a worker became of events that it had put into that worker's
-//! queue, and those that were decided are entries of the shards' histories. The last line says what all shares of the
-//! ledgers have counted, which is what the reports count.
+//! and unloads programs and reads maps. What it takes over from a worker, batch by batch, became of events that it had put
+//! into that worker's queue, and those that were decided are entries of the shards' histories; in the end the batches are
+//! all that was decided. The last line says what all shares of the ledgers have counted, which is what the reports count.
+
 mod counting;
+mod gathering;
 mod hands;
 mod hiring;
 mod listing;
 mod naming;
 mod operator;
 mod program_counts;
+mod register;
 mod running;
 mod telling;
 mod worker;

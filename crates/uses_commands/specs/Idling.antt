@@ -10,4 +10,5 @@ idle =
       Takes = λ old new reports. Unit {0};
       Sees = λ old new. Unit {0};
       NoneLeft = λ work. Unit {0};
+      AllTold = λ counted work. Unit {0};
     }

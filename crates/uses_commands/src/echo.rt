@@ -54,10 +54,6 @@ fn take_tick<R: Wait>(rt: &R, place: &Place, refused: &mut Vec<u64>) -> Result<b
 }
 
 impl Serving for Echo {
-    ghost use Rattle.ap_books.specs.Counts.{none};
-
-    ghost counted = { λ _. none };
-
     fn serve<R: Wait>(&mut self, rt: &R) -> Result<bool, AllocError> {
         let mut any = false;
         for _ in rt.forever() {
@@ -92,7 +88,7 @@ fn report_one(reports: &mut Vec<Report>, line: u64) -> Result<(), AllocError>
     Ok(())
 }
 
-/// A place for each worker, and the number of workers not dismissed.
+/// A place for each worker, and the number of workers.
 #[derive(Drop)]
 pub struct Places {
     pub places: Vec<Place>,
@@ -144,8 +140,6 @@ impl Operating<Echo> for Places {
     ghost semantics = { idle };
 
     ghost crew = { λ o. record { workers = o.workers; counted = none; work = tt } };
-
-    ghost taken = { λ _. none };
 
     fn submit<R: Wait>(&mut self, rt: &R, line: u64, event: Event) -> Result<(), Waiting> {
         put_event(rt, self.places.as_slice(), line, event, 0)
@@ -200,11 +194,7 @@ impl Operating<Echo> for Places {
         Ok(())
     }
 
-    fn dismiss(&mut self, _worker: Echo) {
-        self.workers -= 1;
-    }
-
-    fn gather<R: Wait>(self, _rt: &R) -> Totals {
-        Totals::new()
+    fn gather<R: Wait>(self, _rt: &R, _workers: Vec<Echo>) -> Result<Totals, AllocError> {
+        Ok(Totals::new())
     }
 }

@@ -4,9 +4,7 @@ ghost use Rattle.std.specs.Prelude.{◌≡◌, vec_len};
 
 use crate::echo::{Echo, Place, Places};
 use crate::same::same;
-use apd_driver::{
-    Console, Form, Manner, Printing, Ready, Report, Script, Staff, Unrecorded, run_lines,
-};
+use apd_driver::{Console, Form, Manner, Printing, Report, Script, Staff, Unrecorded, run_lines};
 use apd_files::{Unwritten, write_whole};
 use apd_script::{Numbered, read_script};
 use bpf_regions::Shapes;
@@ -85,11 +83,9 @@ fn staff(rt: &impl Abort, alloc: Global, workers: usize) -> Staff<Echo, Places>
         let mine = Arc::try_clone(&place).expect(rt, "one more owner");
         places.push(place).expect(rt, "memory");
         hands
-            .push(Ready {
-                worker: Echo {
-                    place: mine,
-                    refused: Vec::new(alloc),
-                },
+            .push(Echo {
+                place: mine,
+                refused: Vec::new(alloc),
             })
             .expect(rt, "memory");
     }

@@ -1,6 +1,6 @@
 //! What the operator and the workers share.
 
-use crate::crew::hand::{Done, Ready};
+use crate::crew::hand::Done;
 use crate::crew::serving::Serving;
 use crate::source::Post;
 use std::sync::atomic::AtomicU64;
@@ -8,7 +8,7 @@ use std::sync::atomic::AtomicU64;
 /// An order for a worker: to serve in the interval with this number.
 #[derive(Drop)]
 pub struct Order<W: Serving + Drop> {
-    pub ready: Ready<W>,
+    pub worker: W,
     pub interval: u64,
 }
 

@@ -1,7 +1,7 @@
 //! A worker's thread.
 
 use crate::crew::desk::{Desk, Order, Signs};
-use crate::crew::hand::{Done, Ready};
+use crate::crew::hand::Done;
 use crate::crew::serving::Serving;
 use std::sync::Wait;
 use std::sync::atomic::Ordering;
@@ -32,8 +32,7 @@ fn turn<W: Serving + Drop, R: Wait>(
 
 /// Serves for one interval: until it is closed and the queue is then found empty, or an allocation fails.
 fn serve_interval<W: Serving + Drop, R: Wait>(rt: &R, signs: &Signs, order: Order<W>) -> Done<W> {
-    let Order { ready, interval } = order;
-    let Ready { worker } = ready;
+    let Order { worker, interval } = order;
     let mut done = Done {
         worker,
         refused: false,

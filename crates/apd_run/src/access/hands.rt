@@ -7,9 +7,10 @@ ghost use Rattle.bpf_helpers.specs.Hooked.{shapes_of};
 ghost use Rattle.ap_live.specs.Counting.{counted_by};
 ghost use Rattle.ap_live.specs.Opening.{parts_in_all};
 ghost use Rattle.ap_live.specs.Tokens.{AreLeft, IsWorker};
-ghost use Rattle.ap_shards.specs.Pages.{HasPages};
+ghost use Rattle.ap_shards.specs.Pages.{HasPages, pages_of};
 ghost use Rattle.ap_queues.specs.Lines.{HaveMade};
 ghost use Rattle.apd_run.specs.Dealing.{AreHands, AreNumberedFrom, AreRest, IsNewOperator, IsNewWorker};
+ghost use Rattle.apd_run.specs.Hands.{AreUnused};
 
 use crate::access::hiring::hire;
 use ap_books::{Ledgers, Portions};
@@ -20,22 +21,21 @@ use ap_shards::AllPages;
 use std::alloc::{AllocError, Global};
 
 /// What an operator has of an access point: its token, and the parts of the ledgers, the pages of the journals and the
-/// handles of the queues that it keeps.
+/// handles of the queues that it keeps: `parts` of each ledger, and as many pages of each journal.
 #[derive(Drop)]
 pub(crate) struct Kept<B: Ledgers + Journals> {
     pub token: Box<OperatorToken<B>>,
     pub hoard: Box<Portions<B>>,
     pub pages: Box<AllPages<B>>,
     pub passes: LinePasses,
+    pub parts: u64,
 }
 
-/// The tokens of the workers, and the operator's with all other parts of the ledgers and pages of the journals: `parts` of
-/// each.
+/// The tokens of the workers, and the operator's with all other parts of the ledgers and pages of the journals.
 #[derive(Drop)]
 pub(crate) struct Hands<B: Ledgers + Journals> {
     pub kept: Kept<B>,
     pub workers: Vec<WorkerToken<B>>,
-    pub parts: u64,
 }
 
 /// The tokens of the operator and of the workers.
@@ -62,6 +62,7 @@ fn give_rights<B: Ledgers + Journals>(
     ensures many { IfOk result (λ r. vec_len r.workers ≡ count) }
     ensures parts { IfOk result (λ _. left.new.parts + count + 1 ≡ left.old.parts) }
     ensures counted { IfOk result (λ _. counted_by left.new.shards ≡ counted_by left.old.shards) }
+    ensures pages { OnOk result (pages_of left.new.shards ≡ pages_of left.old.shards) }
     ensures rest { OnOk result (AreRest ap.new left.new.passes) }
     ensures list { ap.new.list ≡ ap.old.list }
     ensures queues { ap.new.queues ≡ ap.old.queues }
@@ -105,10 +106,12 @@ pub(crate) fn deal<B: Ledgers + Journals>(
     requires all { ap.old.stock.workers ≡ count }
     requires few { count ≤ 8 }
     requires nothing { counted_by left.shards ≡ none }
+    requires unwritten { AreUnused (pages_of left.shards) }
     requires parts { left.parts ≡ parts_in_all }
     ensures hands { IfOk result (λ h. AreHands ap.new
-        h.kept.token.value h.workers.items h.kept.hoard.value h.parts) }
-    ensures pages { IfOk result (λ h. HasPages h.parts h.kept.pages.value) }
+        h.kept.token.value h.workers.items h.kept.hoard.value h.kept.parts) }
+    ensures pages { IfOk result (λ h. HasPages h.kept.parts h.kept.pages.value) }
+    ensures unused { IfOk result (λ h. AreUnused h.kept.pages.value) }
     ensures rest { IfOk result (λ h. AreRest ap.new h.kept.passes) }
     ensures many { IfOk result (λ h. vec_len h.workers ≡ count) }
     ensures list { ap.new.list ≡ ap.old.list }
@@ -133,10 +136,7 @@ pub(crate) fn deal<B: Ledgers + Journals>(
         hoard,
         pages,
         passes,
-    };
-    Ok(Hands {
-        kept,
-        workers,
         parts,
-    })
+    };
+    Ok(Hands { kept, workers })
 }

@@ -1,11 +1,12 @@
 //! The tokens of all workers.
 
-ghost use Rattle.std.specs.Prelude.{◌≡◌, ◌+◌, vec_len, IfOk};
+ghost use Rattle.std.specs.Prelude.{◌≡◌, ◌+◌, vec_len, IfOk, OnOk};
 ghost use Rattle.std.specs.List.{All};
 ghost use Rattle.bpf_helpers.specs.Hooked.{shapes_of};
 ghost use Rattle.ap_live.specs.Counting.{counted_by};
 ghost use Rattle.ap_live.specs.Tokens.{AreLeft, IsWorker};
 ghost use Rattle.ap_queues.specs.Lines.{HaveMade};
+ghost use Rattle.ap_shards.specs.Pages.{pages_of};
 ghost use Rattle.apd_run.specs.Dealing.{AreNumberedFrom, IsNewWorker};
 
 use ap_books::Ledgers;
@@ -31,6 +32,7 @@ pub(crate) fn hire<B: Ledgers + Journals>(
     ensures many { IfOk result (λ ws. vec_len ws ≡ count) }
     ensures parts { IfOk result (λ ws. left.new.parts + vec_len ws ≡ left.old.parts) }
     ensures counted { IfOk result (λ _. counted_by left.new.shards ≡ counted_by left.old.shards) }
+    ensures pages { OnOk result (pages_of left.new.shards ≡ pages_of left.old.shards) }
     ensures list { ap.new.list ≡ ap.old.list }
     ensures queues { ap.new.queues ≡ ap.old.queues }
     ensures maps { shapes_of ap.new.stock.maps ≡ shapes_of ap.old.stock.maps }

@@ -1,28 +1,30 @@
 //! The operator of a run.
 
-ghost use Rattle.std.specs.Prelude.{◌≡◌, ◌+◌, ◌<◌, [], false, true, length, map, slice_index_or, slice_set, IfOk, IfSome, IsTrue, None, OnErr, OnOk, Some};
+ghost use Rattle.std.specs.Prelude.{◌≡◌, ◌<◌, [], vec_len, false, true, length, map, slice_index_or, slice_set, IfOk, IfSome, IsTrue, None, OnErr, OnOk, Some};
 ghost use Rattle.ap_books.specs.Counts.{none};
 ghost use Rattle.ap_books.specs.Reading.{Reads};
-ghost use Rattle.ap_live.specs.Counting.{counted_by, tally};
+ghost use Rattle.ap_live.specs.Counting.{tally};
 ghost use Rattle.versions.specs.Sets.{set_of};
 ghost use Rattle.hook_judge.specs.Sums.{no_counts};
 ghost use Rattle.apd_run.specs.InForce.{budget_shown, budgets_of, row_shown, rows_of, with_counts};
 ghost use Rattle.versions.specs.Lists.{Begins};
 ghost use Rattle.apd_run.specs.Hands.{claims, crew_of, tells, work_of};
-ghost use Rattle.apd_run.specs.Deciding.{Accounts, TookAllOf};
-ghost use Rattle.apd_run.specs.Work.{Does, Meets};
+ghost use Rattle.apd_run.specs.Batches.{batches_of, events_of};
+ghost use Rattle.apd_run.specs.Deciding.{Accounts, TookAllOf, items_in};
+ghost use Rattle.apd_run.specs.Work.{AllTold, Does, Meets};
 ghost use Rattle.apd_script.specs.Asked.{Adopt, Load, Read, Store, Sum, Unload};
 ghost use Rattle.apd_driver.specs.Tallies.{told_counts};
-ghost use Rattle.apd_driver.specs.Crews.{Works, gains, with_one_more};
+ghost use Rattle.apd_driver.specs.Crews.{Works, gains};
 
 use crate::access::counting::counted_in;
 use crate::access::naming::Names;
 use crate::access::program_counts::ProgramCounts;
+use crate::access::register::Register;
 use crate::access::telling::report_all;
 use crate::access::worker::LiveWorker;
 use crate::loads::{Adoption, Limits, Loads};
 use ap_books::{Ledgers, Portions, Totals};
-use ap_live::{LiveAp, OperatorToken, Tagged};
+use ap_live::{Gate, LiveAp, OperatorToken, Tagged};
 use ap_locked::Journals;
 use ap_model::Event;
 use ap_queues::{LinePasses, Unserved};
@@ -45,10 +47,10 @@ pub(crate) struct Sources<'a, F> {
     pub(crate) limits: Limits,
 }
 
-/// The operator of a run: its token, the parts of the ledgers, the pages and the handles of queues that no worker has, of
-/// how many items of each worker's queue it took over what became of them, of how many loads it told each worker, with which
-/// workers nothing was left to take over or to tell since then, what these parts have counted, what was counted of the
-/// programs in force, and their sources. Contracts see all of it.
+/// The operator of a run: its token, the parts of the ledgers, the pages and the handles of queues that no worker has, the
+/// batches that it took over, of how many loads it told each worker, with which workers nothing was left to take over or to
+/// tell since then, what these parts have counted, what was counted of the programs in force, and their sources. Contracts
+/// see all of it.
 #[derive(Drop)]
 pub struct LiveOperator<'a, B: Ledgers + Journals, L: Names, F: Files> {
     pub(crate) ap: &'a LiveAp<B>,
@@ -57,7 +59,7 @@ pub struct LiveOperator<'a, B: Ledgers + Journals, L: Names, F: Files> {
     pub(crate) pages: Box<AllPages<B>>,
     pub(crate) parts: u64,
     pub(crate) passes: LinePasses,
-    pub(crate) taken: [u64; 8],
+    pub(crate) register: Register<L>,
     pub(crate) told: [u64; 8],
     pub(crate) settled: [bool; 8],
     pub(crate) totals: Totals,
@@ -81,7 +83,7 @@ impl<'a, B: Ledgers + Journals, L: Names, F: Files> Model for LiveOperator<'a, B
       pages = o.pages.value;
       parts = o.parts;
       passes = o.passes;
-      taken = o.taken;
+      batches = o.register;
       told = o.told;
       settled = o.settled;
       totals = o.totals;
@@ -100,7 +102,7 @@ impl<'a, B: Ledgers + Journals, L: Names, F: Files> Model for LiveOperator<'a, B
       pages = o.pages.value;
       parts = o.parts;
       passes = o.passes;
-      taken = o.taken;
+      batches = o.register;
       told = o.told;
       settled = o.settled;
       totals = o.totals;
@@ -253,34 +255,30 @@ impl<'a, B: Ledgers + Journals, L: Names, F: Files> LiveOperator<'a, B, L, F> {
     }
 
     /// Takes over a worker's counts, also those of the runs of its programs, gives it fresh parts of the ledgers, and
-    /// returns what became of its events: of all items of its queue that are left. Err: it gave another number of them than
-    /// was taken over, which can't happen.
+    /// returns what became of its events, which is one more batch: of all items of its queue that are left. Err: it doesn't
+    /// know all batches of its own, which can't happen.
     fn exchange<G: Drop>(
         &mut self,
         worker: &mut LiveWorker<'a, B, L, G>,
     ) -> Result<Vec<Tagged>, AllocError>
         requires took { TookAllOf (work_of F.held self.old).puts worker.old.token }
         ensures crew { IfOk result (λ handled. crew_of F.held self.new
-            ≡ gains (claims (crew_of F.held self.old) worker.old.number (length handled.items))
+            ≡ gains (claims (crew_of F.held self.old) (record { worker = worker.old.number; told = worker.old.told; events = handled.items }))
             (tally handled.items)) }
         ensures number { OnOk result (worker.old.number ≡ worker.old.token.number) }
-        ensures below { OnOk result (worker.old.number
-            < length (work_of F.held self.old).taken) }
-        ensures agrees { OnOk result (slice_index_or (work_of F.held self.old).taken
-            worker.old.number 0 ≡ worker.old.given) }
         ensures accounts { IfOk result
-            (λ handled. Accounts worker.old.given worker.old.told worker.old.token handled.items) }
+            (λ handled. Accounts (batches_of worker.old.number (work_of F.held self.old).batches)
+            worker.old.told worker.old.token handled.items) }
         ensures programs { OnOk result (self.new.programs
             ≡ with_counts self.old.programs worker.old.token.held.counts) }
-        ensures worker { OnOk result (counted_by worker.new.token.shards ≡ none) }
         ensures anew { OnOk result (worker.new.token.held.counts ≡ no_counts) }
         ensures rest { OnOk result (worker.new.handled ≡ []) }
         ensures told { OnOk result (worker.new.told ≡ worker.old.told) }
         ensures same { OnOk result (worker.new.number ≡ worker.old.number) }
     {
-        let many = worker.handled.len() as u64;
-        let given = claim(&mut self.taken, worker.number, worker.given, many)?;
-        worker.given = given;
+        let told = worker.told;
+        self.register
+            .add(&mut worker.receipt, told, worker.handled.as_slice())?;
         let runs = worker.token.take_counts();
         self.programs.add(&runs);
         let handled = mem::replace(&mut worker.handled, Vec::new(worker.alloc));
@@ -295,74 +293,23 @@ impl<'a, B: Ledgers + Journals, L: Names, F: Files> LiveOperator<'a, B, L, F> {
     /// Tells a worker of the loads so far. Err: it was told of another number of them than was noted, which can't happen.
     fn tell<G: Drop>(&mut self, worker: &mut LiveWorker<'a, B, L, G>) -> Result<(), AllocError>
         requires nothing { worker.old.handled ≡ [] }
-        requires whole { slice_index_or (work_of F.held self.old).taken worker.old.number 0
-            ≡ length (slice_index_or (work_of F.held self.old).puts worker.old.number []) }
+        requires whole { slice_index_or (work_of F.held self.old).puts worker.old.number []
+            ≡ items_in (events_of worker.old.number (work_of F.held self.old).batches) }
         ensures crew { OnOk result (crew_of F.held self.new
             ≡ tells (crew_of F.held self.old) worker.old.number) }
+        ensures below { OnOk result (worker.old.number < length (work_of F.held self.old).told) }
         ensures agrees { OnOk result (slice_index_or (work_of F.held self.old).told
             worker.old.number 0 ≡ worker.old.told) }
-        ensures worker { OnOk result (worker.new.token.shards ≡ worker.old.token.shards) }
     {
         let count = self.loads.count();
-        note(&mut self.told, worker.number, worker.told, count)?;
-        self.settled[worker.number] = true;
+        let number = worker.receipt.number();
+        note(&mut self.told, number, worker.told, count)?;
+        self.settled[number] = true;
         worker.told = count;
         let news = self.loads.tell();
         worker.ap.learn(&mut worker.token, news);
         Ok(())
     }
-
-    /// Takes back a worker's parts of the ledgers, which have counted nothing.
-    fn take_back<G: Drop>(&mut self, worker: LiveWorker<'a, B, L, G>)
-        requires some { 0 < self.old.workers }
-        requires nothing { counted_by worker.token.shards ≡ none }
-        ensures crew { crew_of F.held self.old ≡ with_one_more (crew_of F.held self.new) }
-    {
-        let LiveWorker { token, .. } = worker;
-        let (shares, pages) = token.into_parts();
-        self.hoard.merge(shares);
-        self.pages.merge(pages);
-        self.parts += 1;
-        self.workers -= 1;
-    }
-
-    /// Returns what has been counted. It needs all parts of the ledgers. The entries of all tokens together are the
-    /// journals, which the totals count, unless one is full.
-    fn read_totals<R: Wait>(self, rt: &R) -> Totals
-        requires all { self.workers ≡ 0 }
-        ensures reads { Reads result (crew_of F.held self.entry).counted }
-    {
-        let LiveOperator {
-            ap,
-            token,
-            mut hoard,
-            mut pages,
-            ..
-        } = self;
-        let (shares, mine) = Box::into_inner(token).into_parts();
-        hoard.merge(shares);
-        pages.merge(mine);
-        match ap.close(rt, &mut *hoard, &mut *pages) {
-            Ok(totals) => totals,
-            Err(_) => ap.gather(rt, &mut *hoard),
-        }
-    }
-}
-
-/// Notes that `many` more items of a worker's queue are taken over, if `given` were before, and returns how many they are
-/// then. Err: `given` is another number, which can't happen.
-fn claim(taken: &mut [u64; 8], number: usize, given: u64, many: u64) -> Result<u64, AllocError>
-    ensures below { OnOk result (number < length taken.old) }
-    ensures agrees { OnOk result (slice_index_or taken.old number 0 ≡ given) }
-    ensures sum { IfOk result (λ all. all ≡ given + many) }
-    ensures noted { OnOk result (taken.new ≡ slice_set taken.old number (given + many)) }
-    ensures refused { OnErr result (taken.new ≡ taken.old) }
-{
-    let Some(all) = given.checked_add(many) else {
-        return Err(AllocError);
-    };
-    note(taken, number, given, all)?;
-    Ok(all)
 }
 
 /// Notes a new number for a worker. Err: another one than `old` was noted, which can't happen.
@@ -400,17 +347,15 @@ fn waiting_for(unserved: Unserved) -> Waiting
     Waiting { event, shard }
 }
 
-impl<'a, B: Ledgers + Journals, L: Names, F: Files, G: Drop> Operating<LiveWorker<'a, B, L, G>>
-    for LiveOperator<'a, B, L, F> {
-    ghost use Rattle.ap_live.specs.Counting.{counted_by};
+impl<'a, B: Ledgers + Journals, L: Names, F: Files, G: Gate + Drop> Operating<
+    LiveWorker<'a, B, L, G>,
+> for LiveOperator<'a, B, L, F> {
     ghost use Rattle.apd_run.specs.Hands.{crew_of};
     ghost use Rattle.apd_run.specs.Work.{live};
 
     ghost semantics = { live };
 
     ghost crew = { λ o. crew_of F.held o };
-
-    ghost taken = { λ w. counted_by w.token.shards };
 
     fn submit<R: Wait>(&mut self, rt: &R, line: u64, event: Event) -> Result<(), Waiting> {
         self.settled = [false; 8];
@@ -510,11 +455,17 @@ impl<'a, B: Ledgers + Journals, L: Names, F: Files, G: Drop> Operating<LiveWorke
         }
     }
 
-    fn dismiss(&mut self, worker: LiveWorker<'a, B, L, G>) {
-        self.take_back(worker);
-    }
-
-    fn gather<R: Wait>(self, rt: &R) -> Totals {
-        self.read_totals(rt)
+    fn gather<R: Wait>(
+        self,
+        rt: &R,
+        workers: Vec<LiveWorker<'a, B, L, G>>,
+    ) -> Result<Totals, AllocError>
+        requires all { vec_len workers ≡ (crew_of F.held self).workers }
+        ensures reads { IfOk result
+            (λ totals. Reads totals (crew_of F.held self.entry).counted) }
+        ensures all_told { OnOk result (AllTold (crew_of F.held self.entry).counted
+            (crew_of F.held self.entry).work) }
+    {
+        self.close(rt, workers)
     }
 }

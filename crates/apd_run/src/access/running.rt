@@ -9,7 +9,7 @@ ghost use Rattle.ap_live.specs.Tokens.{IsWorker};
 ghost use Rattle.ap_shards.specs.Opening.{AreNamed};
 ghost use Rattle.ap_shards.specs.Pages.{HasPages};
 ghost use Rattle.apd_run.specs.Dealing.{AreHands, AreNumberedFrom, AreRest, IsNewOperator, IsNewWorker};
-ghost use Rattle.apd_run.specs.Hands.{crew_of};
+ghost use Rattle.apd_run.specs.Hands.{AreUnused, crew_of};
 ghost use Rattle.apd_driver.specs.Captures.{KeepsWhole};
 ghost use Rattle.apd_driver.specs.Shows.{IsBroken};
 ghost use Rattle.apd_run.specs.NewRuns.{IsNewCrew, RunsNew, plan_at};
@@ -18,13 +18,14 @@ use crate::access::hands::{Hands, Kept, deal};
 use crate::access::naming::Names;
 use crate::access::operator::{LiveOperator, Sources};
 use crate::access::program_counts::ProgramCounts;
+use crate::access::register::{Batch, Register};
 use crate::access::worker::LiveWorker;
 use crate::loads::{Limits, Loads};
 use ap_books::{Ledgers, Totals};
 use ap_live::{Gate, LiveAp, Opened, Settings, WorkerToken};
 use ap_locked::Journals;
 use ap_shards::NewShards;
-use apd_driver::{Console, Lines, Ready, Staff, run_lines};
+use apd_driver::{Console, Lines, Staff, run_lines};
 use apd_files::Files;
 use bpf_regions::Shapes;
 use std::alloc::{AllocError, Global};
@@ -52,9 +53,10 @@ pub struct Opening {
     pub new: NewShards,
 }
 
-/// The tokens of an access point, and the programs in force there.
+/// The tokens of an access point, a journal for the batches of its workers, and the programs in force there.
 struct Equipment<B: Ledgers + Journals> {
     hands: Hands<B>,
+    batches: ap_journal::Opened<Batch>,
     loads: Loads,
 }
 
@@ -71,8 +73,9 @@ fn ready_workers<'a, B, L, G>(
     alloc: Global,
     ap: &'a LiveAp<B>,
     gate: G,
+    register: &Register<L>,
     tokens: Vec<WorkerToken<B>>,
-) -> Result<Vec<Ready<LiveWorker<'a, B, L, G>>>, AllocError>
+) -> Result<Vec<LiveWorker<'a, B, L, G>>, AllocError>
 where
     B: Ledgers + Journals,
     L: Names,
@@ -81,35 +84,32 @@ where
     requires new { All IsNewWorker tokens.items }
     requires numbered { AreNumberedFrom 0 tokens.items }
     requires named { ap.now ≡ L.ap }
+    requires none { register.now ≡ [] }
     ensures many { IfOk result (λ ready. vec_len ready ≡ vec_len tokens) }
 {
     let mut tokens = tokens;
     let mut ready = Vec::with_capacity(alloc, tokens.len())?;
     'tokens: while let Some(token) = tokens.pop() {
         let number = tokens.len();
-        ready.push_reserved(Ready {
-            worker: LiveWorker {
-                ap,
-                alloc,
-                gate,
-                number,
-                token,
-                given: 0,
-                told: 0,
-                handled: Vec::new(alloc),
-                list: PhantomData,
-            },
+        ready.push_reserved(LiveWorker {
+            ap,
+            alloc,
+            gate,
+            receipt: register.receipt(number),
+            token,
+            told: 0,
+            handled: Vec::new(alloc),
+            list: PhantomData,
         });
     }
     Ok(ready)
 }
 
-/// An operator that keeps these parts of the ledgers, beside `workers` workers.
+/// An operator that keeps these parts of the ledgers, beside all workers.
 fn new_operator<'a, B, L, F>(
     ap: &'a LiveAp<B>,
     kept: Kept<B>,
-    parts: u64,
-    workers: u64,
+    register: Register<L>,
     loads: &'a mut Loads,
     sources: Sources<'a, F>,
 ) -> LiveOperator<'a, B, L, F>
@@ -118,19 +118,20 @@ where
     L: Names,
     F: Files,
     requires new { IsNewOperator ap.now kept.token.value }
-    requires kept { HasParts parts kept.hoard.value }
-    requires pages { HasPages parts kept.pages.value }
+    requires kept { HasParts kept.parts kept.hoard.value }
+    requires pages { HasPages kept.parts kept.pages.value }
+    requires unused { AreUnused kept.pages.value }
     requires rest { AreRest ap.now kept.passes }
-    requires enough { 1 < parts }
+    requires enough { 1 < kept.parts }
     requires nothing { sum_of kept.hoard.value ≡ none }
-    requires some { 0 < workers }
-    requires each { length ap.now.queues ≡ workers }
-    requires all { parts + workers + 1 ≡ parts_in_all }
+    requires some { 0 < length ap.now.queues }
+    requires all { kept.parts + length ap.now.queues + 1 ≡ parts_in_all }
+    requires none { register ≡ [] }
     requires shares { B.shares ≡ parts_in_all }
     requires named { ap.now ≡ L.ap }
     requires list { loads.old.list ≡ L.ap.list.list }
     requires no_loads { loads.old.loads ≡ [] }
-    ensures workers { (crew_of F.held result).workers ≡ workers }
+    ensures workers { (crew_of F.held result).workers ≡ length ap.now.queues }
     ensures new { IsNewCrew (F.held sources.entry.files.now) sources.entry.limits
         (plan_at B.config ap.now) (crew_of F.held result) }
 {
@@ -139,6 +140,7 @@ where
         hoard,
         pages,
         passes,
+        parts,
     } = kept;
     LiveOperator {
         ap,
@@ -147,11 +149,11 @@ where
         pages,
         parts,
         passes,
-        taken: [0; 8],
+        register,
         told: [0; 8],
         settled: [false; 8],
         totals: Totals::new(),
-        workers,
+        workers: ap.workers() as u64,
         loads,
         programs: ProgramCounts::none(),
         sources,
@@ -178,13 +180,15 @@ where
     S: Lines + Drop,
     P: Console + Drop,
     requires hands { let hands = equipment.hands in
-        AreHands ap.now hands.kept.token.value hands.workers.items hands.kept.hoard.value hands.parts }
-    requires pages { HasPages equipment.hands.parts equipment.hands.kept.pages.value }
+        AreHands ap.now hands.kept.token.value hands.workers.items hands.kept.hoard.value hands.kept.parts }
+    requires pages { HasPages equipment.hands.kept.parts equipment.hands.kept.pages.value }
+    requires unused { AreUnused equipment.hands.kept.pages.value }
     requires rest { AreRest ap.now equipment.hands.kept.passes }
     requires shares { B.shares ≡ parts_in_all }
     requires some { 0 < length ap.now.queues }
     requires each { length ap.now.queues ≡ vec_len equipment.hands.workers }
     requires named { ap.now ≡ L.ap }
+    requires batches { equipment.batches ≡ L.batches }
     requires loads { equipment.loads.list ≡ L.ap.list.list }
     requires no_loads { equipment.loads.loads ≡ [] }
     ensures runs { RunsNew (F.held supplies.entry.files.now) supplies.entry.limits
@@ -198,22 +202,22 @@ where
         limits,
         gate,
     } = supplies;
-    let Equipment { hands, loads } = equipment;
-    let Hands {
-        kept,
-        workers,
-        parts,
-    } = hands;
+    let Equipment {
+        hands,
+        batches,
+        loads,
+    } = equipment;
+    let Hands { kept, workers } = hands;
+    let register = Register::new(batches);
     let mut loads = loads;
-    let Ok(ready) = ready_workers::<B, L, G>(alloc, ap, gate, workers) else {
+    let Ok(ready) = ready_workers::<B, L, G>(alloc, ap, gate, &register, workers) else {
         // Dropped by a call, since it has many parts.
         drop(kept);
         loads.close(rt);
         return without_memory(writer);
     };
-    let many = ready.len() as u64;
     let sources = Sources { files, limits };
-    let operator = new_operator::<B, L, F>(ap, kept, parts, many, &mut loads, sources);
+    let operator = new_operator::<B, L, F>(ap, kept, register, &mut loads, sources);
     let staff = Staff {
         operator,
         workers: ready,
@@ -271,6 +275,10 @@ where
         loads.close(rt);
         return without_memory(writer);
     };
-    let equipment = Equipment { hands, loads };
+    let equipment = Equipment {
+        hands,
+        batches: ap_journal::Opened::new(),
+        loads,
+    };
     run_with::<B, Brand, F, G, R, S, P>(rt, alloc, &ap, equipment, supplies, lines, writer)
 }

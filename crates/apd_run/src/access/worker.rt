@@ -1,6 +1,7 @@
 //! The workers of a run.
 
 use crate::access::naming::Names;
+use crate::access::register::Receipt;
 use ap_books::Ledgers;
 use ap_live::{Gate, LiveAp, Tagged, WorkerToken};
 use ap_locked::Journals;
@@ -9,17 +10,16 @@ use std::alloc::{AllocError, Global};
 use std::marker::{Model, PhantomData};
 use std::sync::Wait;
 
-/// A worker of a run: its token and number, what it needs for each event, how many items it had taken when the operator
-/// last took over its counts, of how many loads it was told then, and what became of each item since then, which is what
-/// these count. Contracts see the access point, the number, the token, both counts and the list.
+/// A worker of a run: its token, what it needs for each event, its receipt for what the operator took over, of how many
+/// loads it was told then, and what became of each item since then, which is what these count. Contracts see the access
+/// point, the token, the receipt's number and batches, the number of loads and the list.
 #[derive(Drop)]
 pub struct LiveWorker<'a, B: Ledgers + Journals, L: Names, G: Drop> {
     pub(crate) ap: &'a LiveAp<B>,
     pub(crate) alloc: Global,
     pub(crate) gate: G,
-    pub(crate) number: usize,
+    pub(crate) receipt: Receipt<L>,
     pub(crate) token: WorkerToken<B>,
-    pub(crate) given: u64,
     pub(crate) told: u64,
     pub(crate) handled: Vec<Tagged>,
     pub(crate) list: PhantomData<L>,
@@ -30,17 +30,13 @@ impl<'a, B: Ledgers + Journals, L: Names, G: Drop> Model for LiveWorker<'a, B, L
 
     ghost Value = { RunWorker };
 
-    ghost view = { λ w. record { ap = w.ap.now; number = w.number; given = w.given; told = w.told; token = w.token; handled = w.handled.items } };
+    ghost view = { λ w. record { ap = w.ap.now; number = w.receipt.number; batches = w.receipt.batches; told = w.told; token = w.token; handled = w.handled.items } };
 
     ghost invariant = { λ w. IsRunWorker L.ap
-        (record { ap = w.ap.now; number = w.number; given = w.given; told = w.told; token = w.token; handled = w.handled.items }) };
+        (record { ap = w.ap.now; number = w.receipt.number; batches = w.receipt.batches; told = w.told; token = w.token; handled = w.handled.items }) };
 }
 
 impl<'a, B: Ledgers + Journals, L: Names, G: Gate + Drop> Serving for LiveWorker<'a, B, L, G> {
-    ghost use Rattle.ap_live.specs.Counting.{counted_by};
-
-    ghost counted = { λ w. counted_by w.token.shards };
-
     fn serve<R: Wait>(&mut self, rt: &R) -> Result<bool, AllocError> {
         let before = self.handled.len();
         let token = &mut self.token;

@@ -1,5 +1,5 @@
 use Rattle.std.proofs.Common.{◌≡◌, ◌+◌, ◌-◌, ◌∙◌, ℕ, ap, arith, refl, subst, sym}
-use Rattle.ap_shards.specs.Pages.{HasPages}
+use Rattle.ap_shards.specs.Pages.{AreNewPages, HasPages}
 use Rattle.ap_live.specs.Tokens.{Left}
 use Rattle.ap_live.proofs.Rest.{new_count}
 use Rattle.ap_live.proofs.tokens.LeftTokens.into_all.Goals as goal
@@ -11,3 +11,6 @@ returns-clause-count g c =
     let rest : HasPages (parts - 1) c.self.inside.pages = new_count (parts - 1) c.self.inside.pages c.self.invariant.1 in
     let all : 1 + (parts - 1) ≡ parts = omega (arith, c.self.invariant.2) in
     subst (λ (n : ℕ). HasPages n c.merge.new.self) (all ∙ ap (λ (l : Left). l.parts) c.self.view_is) (c.merge.ensures.count 1 (parts - 1) one rest)
+
+pub returns-clause-new : goal.returns-clause-new
+returns-clause-new g c = subst (λ (l : Left). AreNewPages (l.parts - 1) l.pages) c.self.view_is c.self.invariant.1

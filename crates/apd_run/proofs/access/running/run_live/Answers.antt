@@ -2,7 +2,11 @@ use Rattle.std.proofs.Common.{sym, ◌∙◌}
 use Rattle.apd_run.specs.NewRuns.{NotBegun}
 use Rattle.apd_run.proofs.Captured.{if_low}
 use Rattle.apd_run.proofs.NewRuns.{runs_under}
+use Rattle.apd_run.proofs.Returning.{whole_unused}
 use Rattle.apd_run.proofs.access.running.run_live.Goals as goal
+
+pub deal-requires-clause-unwritten : goal.deal-requires-clause-unwritten
+deal-requires-clause-unwritten g c = whole_unused _ _ c.in-Ok.ensures.shards
 
 pub returns-in_default : goal.returns-in_default
 returns-in_default g c =
