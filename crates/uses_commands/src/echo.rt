@@ -1,8 +1,11 @@
 //! An access point that reports each tick as refused, unless it has no units. It does what `run_lines` requires of one.
 
-ghost use Rattle.std.specs.Prelude.{◌≡◌, None, IfErr, OnOk};
+ghost use Rattle.std.specs.Prelude.{◌≡◌, vec_len, None, IfErr, IfOk, OnOk};
+ghost use Rattle.ap_books.specs.Counts.{none};
+ghost use Rattle.ap_books.specs.Reading.{Reads};
 ghost use Rattle.ap_model.specs.AccessPoint.{shard_of};
 ghost use Rattle.apd_driver.specs.Tells.{Tells};
+ghost use Rattle.uses_commands.specs.Idling.{idle};
 
 use ap_books::Totals;
 use ap_model::Event;
@@ -194,7 +197,12 @@ impl Operating<Echo> for Places {
         Ok(())
     }
 
-    fn gather<R: Wait>(self, _rt: &R, _workers: Vec<Echo>) -> Result<Totals, AllocError> {
+    fn gather<R: Wait>(self, _rt: &R, workers: Vec<Echo>) -> Result<Totals, AllocError>
+        requires all { vec_len workers ≡ self.workers }
+        ensures reads { IfOk result (λ totals. Reads totals none) }
+        ensures all_told { OnOk result (idle.AllTold none tt) }
+    {
+        drop(workers);
         Ok(Totals::new())
     }
 }
