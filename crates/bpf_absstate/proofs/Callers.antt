@@ -6,7 +6,6 @@ use Rattle.std.proofs.lemmas.List.Elements.{All-head, All-tail}
 use Rattle.bpf_model.specs.declared.Caller.{Caller}
 use Rattle.bpf_absval.specs.declared.room.Room.{Room}
 use Rattle.bpf_absval.specs.declared.slot.AbsSlot.{AbsSlot}
-use Rattle.bpf_absval.specs.Laws.{ValueKeeps}
 use Rattle.bpf_absval.specs.Meaning.{Labels}
 use Rattle.bpf_absstate.specs.declared.frames.CallFrame.{CallFrame}
 use Rattle.bpf_absstate.specs.Contains.{CallerHolds, CallersHold}
@@ -16,26 +15,26 @@ use Rattle.bpf_absstate.specs.WellFormed.{IsFrame}
 use Rattle.bpf_absstate.proofs.Stacks.{frame_test}
 use Rattle.bpf_absstate.proofs.Values.{values_keep}
 
-caller_keeps : ValueKeeps → (e : Labels) (rooms others : List Room) (k : ℕ) (f g : CallFrame) (c : Caller) → IsFrame g → frame_included rooms others f g ≡ true →
+caller_keeps : (e : Labels) (rooms others : List Room) (k : ℕ) (f g : CallFrame) (c : Caller) → IsFrame g → frame_included rooms others f g ≡ true →
     CallerHolds e rooms k f c → CallerHolds e others k g c
-caller_keeps law e rooms others k f g c well t h =
+caller_keeps e rooms others k f g c well t h =
     let test = frame_test rooms others f g t in
     record {
       slot = h.slot ∙ eqb-true f.return_slot g.return_slot test.slot;
-      kept = values_keep law e rooms others f.kept g.kept (c.r6 ∷ c.r7 ∷ c.r8 ∷ c.r9 ∷ []) well.values test.kept h.kept;
+      kept = values_keep e rooms others f.kept g.kept (c.r6 ∷ c.r7 ∷ c.r8 ∷ c.r9 ∷ []) well.values test.kept h.kept;
       r10 = h.r10;
     }
 
-pub callers_keep : ValueKeeps → (e : Labels) (rooms others : List Room) (k : ℕ) (fs gs : List CallFrame) (cs : List Caller) → All IsFrame gs → frames_included rooms others fs gs ≡ true →
+pub callers_keep : (e : Labels) (rooms others : List Room) (k : ℕ) (fs gs : List CallFrame) (cs : List Caller) → All IsFrame gs → frames_included rooms others fs gs ≡ true →
     CallersHold e rooms k fs cs → CallersHold e others k gs cs
 unfolding frames_included CallersHold
-callers_keep law e rooms others k (f ∷ fs) (g ∷ gs) (c ∷ cs) well t h =
+callers_keep e rooms others k (f ∷ fs) (g ∷ gs) (c ∷ cs) well t h =
     let both = and_parts (frame_included rooms others f g) (frames_included rooms others fs gs) t in
-    (caller_keeps law e rooms others k f g c (All-head IsFrame g gs well) both.0 h.0, callers_keep law e rooms others (k + 1) fs gs cs (All-tail IsFrame g gs well) both.1 h.1)
-callers_keep law e rooms others k [] [] cs well t h = h
-callers_keep law e rooms others k [] (g ∷ gs) cs well t h = absurd (false≢true t)
-callers_keep law e rooms others k (f ∷ fs) [] cs well t h = absurd (false≢true t)
-callers_keep law e rooms others k (f ∷ fs) (g ∷ gs) [] well t h = absurd h
+    (caller_keeps e rooms others k f g c (All-head IsFrame g gs well) both.0 h.0, callers_keep e rooms others (k + 1) fs gs cs (All-tail IsFrame g gs well) both.1 h.1)
+callers_keep e rooms others k [] [] cs well t h = h
+callers_keep e rooms others k [] (g ∷ gs) cs well t h = absurd (false≢true t)
+callers_keep e rooms others k (f ∷ fs) [] cs well t h = absurd (false≢true t)
+callers_keep e rooms others k (f ∷ fs) (g ∷ gs) [] well t h = absurd h
 
 pub callers_move : (e d : Labels) (rooms others : List Room) (g : CallFrame → CallFrame) →
     ((k : ℕ) (a : CallFrame) (c : Caller) → CallerHolds e rooms k a c → CallerHolds d others k (g a) c) →

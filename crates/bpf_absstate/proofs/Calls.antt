@@ -8,7 +8,7 @@ use Rattle.bpf_regions.specs.declared.memory.Region.TheVariants as region
 use Rattle.bpf_model.specs.declared.Caller.{Caller}
 use Rattle.bpf_model.specs.State.{State, empty_frame}
 use Rattle.bpf_model.specs.Step.{caller_of, without_arguments as unset_arguments}
-use Rattle.bpf_absnum.specs.Laws.{SingleContains}
+use Rattle.bpf_absnum.proofs.Rows.{single_keeps}
 use Rattle.bpf_absval.specs.declared.room.Room.{Room}
 use Rattle.bpf_absval.specs.declared.value.AbsVal.{AbsVal}
 use Rattle.bpf_absval.specs.declared.value.AbsVal.TheVariants as abs
@@ -41,8 +41,8 @@ length_without_results a = simp length-set
 length_unset_results : (vs : List Value) → length (unset_results vs) ≡ length vs
 length_unset_results vs = simp length-set
 
-end_holds : SingleContains → (e : Labels) (rooms : List Room) (k : ℕ) (v : Value) → v ≡ value.Pointer (region.Stack k) 512 → Holds e rooms (stack_end k) v
-end_holds single e rooms k v is = rw is (refl, single 512 (lit< tt))
+end_holds : (e : Labels) (rooms : List Room) (k : ℕ) (v : Value) → v ≡ value.Pointer (region.Stack k) 512 → Holds e rooms (stack_end k) v
+end_holds e rooms k v is = rw is (refl, single_keeps 512 (lit< tt))
 
 caller_waits : (e : Labels) (a : View) (s : State) → HoldsIn e a s → CallerHolds e a.rooms (0 + length (drop 1 a.frames))
     (record { return_slot = a.pc + 1; kept = kept_registers a; stack = empty_stack }) (caller_of s)
@@ -58,8 +58,8 @@ caller_waits e a s h =
       r10 = h.pointer ∙ ap (λ k. value.Pointer (region.Stack k) 512) newest;
     }
 
-pub call_holds : SingleContains → CallHolds
-call_holds single e a s to h =
+pub call_holds : CallHolds
+call_holds e a s to h =
     let stacks = stacks_length e a.rooms a.frames s.stack h.stacks in
     let registers = values_length e a.rooms a.registers s.regs h.registers in
     let f : CallFrame = record { return_slot = a.pc + 1; kept = kept_registers a; stack = empty_stack } in
@@ -71,7 +71,7 @@ call_holds single e a s to h =
       registers =
           values_set e a.rooms (without_results a.registers) (unset_results s.regs) 10 (stack_end (length a.frames)) top
           (results_unset e a.rooms a.registers s.regs h.registers)
-          (end_holds single e a.rooms (length a.frames) top (ap (λ k. value.Pointer (region.Stack k) 512) (sym stacks)));
+          (end_holds e a.rooms (length a.frames) top (ap (λ k. value.Pointer (region.Stack k) 512) (sym stacks)));
       count = length-set (without_results a.registers) 10 (stack_end (length a.frames)) ∙ length_without_results a.registers ∙ h.count;
       pointer = get_or-set_same (unset_results s.regs) 10 top value.Unset within ∙ ap (λ k. value.Pointer (region.Stack k) 512) depth;
       stacks = stacks_push e a.rooms a.frames s.stack f empty_frame h.stacks (unset_stack e a.rooms f refl);
@@ -132,8 +132,8 @@ waits e a s c h got =
       holds = subst (λ n. CallerHolds e a.rooms n (frame_of a (length a.frames - 1)) c) zero_more (subst (λ f. CallerHolds e a.rooms (0 + i) f c) read at);
     }
 
-pub return_holds : SingleContains → ReturnHolds
-return_holds single e a s c h got =
+pub return_holds : ReturnHolds
+return_holds e a s c h got =
     let w = waits e a s c h got in
     let stacks = stacks_length e a.rooms a.frames s.stack h.stacks in
     let registers = values_length e a.rooms a.registers s.regs h.registers in
@@ -151,7 +151,7 @@ return_holds single e a s c h got =
       registers =
           values_set e a.rooms (with_kept (without_arguments a.registers) f.kept) (with_waiting (unset_arguments s.regs) c) 10 (stack_end (depth - 1)) c.r10
           (kept_holds e a.rooms (without_arguments a.registers) f.kept (unset_arguments s.regs) c (arguments_unset e a.rooms a.registers s.regs h.registers) w.holds.kept)
-          (end_holds single e a.rooms (depth - 1) c.r10 end_is);
+          (end_holds e a.rooms (depth - 1) c.r10 end_is);
       count = simp length-set h.count;
       pointer =
           get_or-set_same (with_waiting (unset_arguments s.regs) c) 10 c.r10 value.Unset within ∙ w.holds.r10 ∙ ap (λ k. value.Pointer (region.Stack k) 512) left;

@@ -7,9 +7,8 @@ use Rattle.std.proofs.lemmas.List.Elements.{All-drop}
 use Rattle.bpf_regions.specs.declared.memory.Value.TheVariants as value
 use Rattle.bpf_model.specs.Alu.{is_unset}
 use Rattle.bpf_model.specs.State.{State, empty_frame}
-use Rattle.bpf_absnum.specs.Laws.{SingleContains}
+use Rattle.bpf_absnum.proofs.Rows.{single_keeps}
 use Rattle.bpf_absval.specs.declared.room.Room.{Room}
-use Rattle.bpf_absval.specs.Laws.{ValueKeeps, SlotKeeps}
 use Rattle.bpf_absval.specs.Meaning.{IsStackFrame, Labels, is_number}
 use Rattle.bpf_absstate.specs.declared.frames.CallFrame.{CallFrame}
 use Rattle.bpf_absstate.specs.Contains.{HoldsIn, CallersHold, StackHolds, StacksHold, ValuesHold}
@@ -46,24 +45,24 @@ state_test a b t =
     let t3 = and_parts (a.pc == b.pc) (nat_le b.least a.least) t2.0 in
     record { pc = t3.0; least = t3.1; registers = t2.1; frames = t1.1 }
 
-holds_on : ValueKeeps → SlotKeeps → (e : Labels) (a b : View) (s : State) → IsView b → state_included a b ≡ true → HoldsIn e a s → HoldsIn e b s
-holds_on values slots e a b s well t h =
+holds_on : (e : Labels) (a b : View) (s : State) → IsView b → state_included a b ≡ true → HoldsIn e a s → HoldsIn e b s
+holds_on e a b s well t h =
     let test = state_test a b t in
     record {
       pc = h.pc ∙ eqb-true a.pc b.pc test.pc;
-      registers = values_keep values e a.rooms b.rooms a.registers b.registers s.regs well.values test.registers h.registers;
+      registers = values_keep e a.rooms b.rooms a.registers b.registers s.regs well.values test.registers h.registers;
       count = well.registers;
       pointer = h.pointer;
-      stacks = stacks_keep slots e a.rooms b.rooms a.frames b.frames s.stack well.frames test.frames h.stacks;
+      stacks = stacks_keep e a.rooms b.rooms a.frames b.frames s.stack well.frames test.frames h.stacks;
       callers =
-          callers_keep values e a.rooms b.rooms 0 (drop 1 a.frames) (drop 1 b.frames) s.callers (All-drop IsFrame 1 b.frames well.frames)
+          callers_keep e a.rooms b.rooms 0 (drop 1 a.frames) (drop 1 b.frames) s.callers (All-drop IsFrame 1 b.frames well.frames)
           (others_included a.rooms b.rooms a.frames b.frames test.frames) h.callers;
       some = well.some;
       least = omega (arith, leb-true b.least a.least test.least, h.least);
     }
 
-pub inclusion_keeps : ValueKeeps → SlotKeeps → InclusionKeeps
-inclusion_keeps values slots p a b s well t h = record { base = h.base; holds = holds_on values slots (record { setting = p; base = h.base }) a b s well t h.holds }
+pub inclusion_keeps : InclusionKeeps
+inclusion_keeps p a b s well t h = record { base = h.base; holds = holds_on (record { setting = p; base = h.base }) a b s well t h.holds }
 
 -- ---- the entry
 
@@ -104,15 +103,15 @@ unset_stack e rooms f is =
       slots = λ i l. rw (is, same_everywhere 64 i slot.Unset) tt;
     }
 
-pub entry_contains : SingleContains → EntryContains
+pub entry_contains : EntryContains
 unfolding ValuesHold StacksHold CallersHold
-entry_contains single p =
-    let start = single 0 (lit< tt) in
+entry_contains p =
+    let start = single_keeps 0 (lit< tt) in
     record {
       base = λ label. 0;
       holds = record {
         pc = refl;
-        registers = (tt, ((start, tt), (tt, ((tt, start), (tt, (tt, (tt, (tt, (tt, (tt, ((refl, single 512 (lit< tt)), tt)))))))))));
+        registers = (tt, ((start, tt), (tt, ((tt, start), (tt, (tt, (tt, (tt, (tt, (tt, ((refl, single_keeps 512 (lit< tt)), tt)))))))))));
         count = refl;
         pointer = refl;
         stacks = (unset_stack _ [] main_frame refl, tt);

@@ -1,8 +1,8 @@
 mod Callers
-mod Calls
-mod Followed
-mod Kept
-mod Known
+pub mod Calls
+pub mod Followed
+pub mod Kept
+pub mod Known
 mod Pointers
 mod Marked
 mod Slots

@@ -9,9 +9,9 @@ use Rattle.bpf_absval.specs.declared.room.Room.{Room}
 use Rattle.bpf_absval.specs.declared.slot.AbsSlot.{AbsSlot}
 use Rattle.bpf_absval.specs.declared.slot.AbsSlot.TheVariants as slot
 use Rattle.bpf_absval.specs.Inclusion.{slot_included}
-use Rattle.bpf_absval.specs.Laws.{SlotKeeps}
 use Rattle.bpf_absval.specs.Meaning.{Labels}
 use Rattle.bpf_absval.specs.WellFormed.{IsSlot}
+use Rattle.bpf_absval.proofs.Keeps.{slot_keeps}
 use Rattle.bpf_stack.specs.Included.{slots_included}
 use Rattle.bpf_absstate.specs.declared.frames.CallFrame.{CallFrame}
 use Rattle.bpf_absstate.specs.Contains.{StackHolds, StacksHold}
@@ -49,29 +49,29 @@ frame_test rooms others f g t =
     let t2 = and_parts (f.return_slot == g.return_slot) (values_included rooms others f.kept g.kept) t1.0 in
     record { slot = t2.0; kept = t2.1; stack = t1.1 }
 
-stack_keeps : SlotKeeps → (e : Labels) (rooms others : List Room) (f g : CallFrame) (s : StackFrame) → IsFrame g → slots_included rooms others f.stack g.stack ≡ true →
+stack_keeps : (e : Labels) (rooms others : List Room) (f g : CallFrame) (s : StackFrame) → IsFrame g → slots_included rooms others f.stack g.stack ≡ true →
     StackHolds e rooms f s → StackHolds e others g s
-stack_keeps law e rooms others f g s well t h =
+stack_keeps e rooms others f g s well t h =
     record {
       frame = h.frame;
       all = well.stack;
       slots = λ i l.
-          law e rooms others (slice_index_or f.stack i slot.Unset) (slice_index_or g.stack i slot.Unset) s i h.frame
+          slot_keeps e rooms others (slice_index_or f.stack i slot.Unset) (slice_index_or g.stack i slot.Unset) s i h.frame
           (All-get_or IsSlot g.stack i slot.Unset (omega (arith, well.stack)) well.slots) (included_at rooms others f.stack g.stack i t) (h.slots i l);
     }
 
-pub stacks_keep : SlotKeeps → (e : Labels) (rooms others : List Room) (fs gs : List CallFrame) (ss : List StackFrame) → All IsFrame gs → frames_included rooms others fs gs ≡ true →
+pub stacks_keep : (e : Labels) (rooms others : List Room) (fs gs : List CallFrame) (ss : List StackFrame) → All IsFrame gs → frames_included rooms others fs gs ≡ true →
     StacksHold e rooms fs ss → StacksHold e others gs ss
 unfolding frames_included StacksHold
-stacks_keep law e rooms others (f ∷ fs) (g ∷ gs) (s ∷ ss) well t h =
+stacks_keep e rooms others (f ∷ fs) (g ∷ gs) (s ∷ ss) well t h =
     let both = and_parts (frame_included rooms others f g) (frames_included rooms others fs gs) t in (
-      stack_keeps law e rooms others f g s (All-head IsFrame g gs well) (frame_test rooms others f g both.0).stack h.0,
-      stacks_keep law e rooms others fs gs ss (All-tail IsFrame g gs well) both.1 h.1,
+      stack_keeps e rooms others f g s (All-head IsFrame g gs well) (frame_test rooms others f g both.0).stack h.0,
+      stacks_keep e rooms others fs gs ss (All-tail IsFrame g gs well) both.1 h.1,
     )
-stacks_keep law e rooms others [] [] ss well t h = h
-stacks_keep law e rooms others [] (g ∷ gs) ss well t h = absurd (false≢true t)
-stacks_keep law e rooms others (f ∷ fs) [] ss well t h = absurd (false≢true t)
-stacks_keep law e rooms others (f ∷ fs) (g ∷ gs) [] well t h = absurd h
+stacks_keep e rooms others [] [] ss well t h = h
+stacks_keep e rooms others [] (g ∷ gs) ss well t h = absurd (false≢true t)
+stacks_keep e rooms others (f ∷ fs) [] ss well t h = absurd (false≢true t)
+stacks_keep e rooms others (f ∷ fs) (g ∷ gs) [] well t h = absurd h
 
 -- each stack, changed by g, holds what it held
 pub stacks_move : (e d : Labels) (rooms others : List Room) (g : CallFrame → CallFrame) → ((a : CallFrame) (s : StackFrame) → StackHolds e rooms a s → StackHolds d others (g a) s) →

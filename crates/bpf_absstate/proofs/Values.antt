@@ -10,23 +10,23 @@ use Rattle.bpf_absval.specs.declared.room.Room.{Room}
 use Rattle.bpf_absval.specs.declared.value.AbsVal.{AbsVal}
 use Rattle.bpf_absval.specs.declared.value.AbsVal.TheVariants as abs
 use Rattle.bpf_absval.specs.Inclusion.{value_included}
-use Rattle.bpf_absval.specs.Laws.{ValueKeeps}
 use Rattle.bpf_absval.specs.Meaning.{Labels, Holds}
 use Rattle.bpf_absval.specs.WellFormed.{IsVal}
+use Rattle.bpf_absval.proofs.Keeps.{value_keeps}
 use Rattle.bpf_absstate.specs.Contains.{ValuesHold}
 use Rattle.bpf_absstate.specs.Inclusion.{values_included}
 
-pub values_keep : ValueKeeps → (e : Labels) (rooms others : List Room) (a b : List AbsVal) (vs : List Value) → All IsVal b → values_included rooms others a b ≡ true →
+pub values_keep : (e : Labels) (rooms others : List Room) (a b : List AbsVal) (vs : List Value) → All IsVal b → values_included rooms others a b ≡ true →
     ValuesHold e rooms a vs → ValuesHold e others b vs
 unfolding values_included ValuesHold
-values_keep law e rooms others (x ∷ a) (y ∷ b) (v ∷ vs) well t h =
+values_keep e rooms others (x ∷ a) (y ∷ b) (v ∷ vs) well t h =
     let both = and_parts (value_included rooms others x y) (values_included rooms others a b) t in
-    (law e rooms others x y v (All-head IsVal y b well) both.0 h.0, values_keep law e rooms others a b vs (All-tail IsVal y b well) both.1 h.1)
-values_keep law e rooms others [] [] [] well t h = h
-values_keep law e rooms others [] (y ∷ b) [] well t h = absurd (false≢true t)
-values_keep law e rooms others [] b (v ∷ vs) well t h = absurd h
-values_keep law e rooms others (x ∷ a) [] vs well t h = absurd (false≢true t)
-values_keep law e rooms others (x ∷ a) (y ∷ b) [] well t h = absurd h
+    (value_keeps e rooms others x y v (All-head IsVal y b well) both.0 h.0, values_keep e rooms others a b vs (All-tail IsVal y b well) both.1 h.1)
+values_keep e rooms others [] [] [] well t h = h
+values_keep e rooms others [] (y ∷ b) [] well t h = absurd (false≢true t)
+values_keep e rooms others [] b (v ∷ vs) well t h = absurd h
+values_keep e rooms others (x ∷ a) [] vs well t h = absurd (false≢true t)
+values_keep e rooms others (x ∷ a) (y ∷ b) [] well t h = absurd h
 
 -- each value, changed by g, holds what it held
 pub values_move : (e d : Labels) (rooms others : List Room) (g : AbsVal → AbsVal) → ((a : AbsVal) (v : Value) → Holds e rooms a v → Holds d others (g a) v) →

@@ -2,8 +2,9 @@
 //!
 //! Main calls: `AbsState::entry`, `set_register`, `set_slot`, `call`, `is_included`, `difference`, `differs_at`. It
 //! depends on `bpf_stack`. Each change is its definition in `specs/View.antt`; if an allocation fails, nothing changes.
-//! `specs/Contains.antt` defines which states of the machine an abstract one contains. [`laws`] says what each change
-//! keeps, and that a state that includes another contains all that it contains.
+//! `specs/Contains.antt` defines which states of the machine an abstract one contains. [`laws`] says that a state that
+//! includes another contains all that it contains, and that the entry contains the start of every run; `proofs/` shows
+//! what each change keeps (`Followed`, `Calls`, `Known`).
 #![tactic(auto)]
 
 pub mod frames;

@@ -1,6 +1,6 @@
-mod Keeps
-mod Forgets
-mod Raises
+pub mod Keeps
+pub mod Forgets
+pub mod Raises
 mod Ordered
 mod Forked
 mod Newest

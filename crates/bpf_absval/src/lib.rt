@@ -4,8 +4,8 @@
 //!
 //! Main calls: `AbsVal::is_included`, `AbsSlot::is_included`, `Rooms::raise`. It depends on
 //! `bpf_absnum`. `specs/Meaning.antt` defines which values of a run an abstract value contains.
-//! [`laws`] says what is kept: a value contains all that a value included in it contains; a label
-//! may be forgotten, made anew, or given more room.
+//! [`laws`] says that a value contains all that a value included in it contains. `proofs/Forgets`
+//! and `proofs/Raises` show that a label may be forgotten, made anew, or given more room.
 #![tactic(auto)]
 
 pub mod inclusion;

@@ -1,7 +1,7 @@
 //! How many bytes are known to follow labels.
 
-ghost use Rattle.std.specs.Prelude.{◌≡◌, ◌^◌, [], None, OnOk, OnErr, IfOk};
-ghost use Rattle.bpf_absval.specs.Rooms.{find_room, raised, rooms_without, Between};
+ghost use Rattle.std.specs.Prelude.{◌≡◌, [], None, Some, OnOk, OnErr, IfOk};
+ghost use Rattle.bpf_absval.specs.Rooms.{find_room, raised, rooms_without};
 ghost use Rattle.bpf_absval.specs.Leaves.{rooms_of};
 
 use crate::tree::Tree;
@@ -65,13 +65,6 @@ impl Rooms {
         }
     }
 
-    /// Labels increase from room to room.
-    pub fn whole(&self)
-        ensures { Between 0 (2 ^ 16) self.now }
-    {
-        let _tree = &self.tree;
-    }
-
     /// All rooms as one tree.
     fn gathered(&self) -> Result<Tree, AllocError>
         ensures { IfOk result (λ tree. rooms_of tree ≡ self.now) }
@@ -118,15 +111,9 @@ impl Rooms {
         ensures ok { OnOk result (self.new ≡ raised self.old label size) }
         ensures err { OnErr result (self.new ≡ self.old) }
     {
-        self.whole();
         match self.find(label) {
             None => self.put(label, size),
-            Some(known) => {
-                if size <= known {
-                    return Ok(());
-                }
-                self.raise_known(label, size)
-            }
+            Some(known) => self.raise_known(label, size, known),
         }
     }
 
@@ -142,8 +129,9 @@ impl Rooms {
         Ok(())
     }
 
-    /// Raises the label's room, or adds one.
-    fn raise_known(&mut self, label: u16, size: u16) -> Result<(), AllocError>
+    /// Raises the label's room, of `known` bytes.
+    fn raise_known(&mut self, label: u16, size: u16, known: u16) -> Result<(), AllocError>
+        requires { find_room self.old label ≡ Some known }
         ensures ok { OnOk result (self.new ≡ raised self.old label size) }
         ensures err { OnErr result (self.new ≡ self.old) }
     {
@@ -153,6 +141,9 @@ impl Rooms {
                 self.newest = Some(Room { label, size });
                 return Ok(());
             }
+        }
+        if size <= known {
+            return Ok(());
         }
         let all = self.gathered()?;
         let tree = all.with_room(self.alloc, label, size)?;

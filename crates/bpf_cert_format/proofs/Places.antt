@@ -1,7 +1,6 @@
 -- Entries by the positions of their bytes.
 use Rattle.std.proofs.Common.{◌≡◌, ℕ, ◌+◌, ◌-◌, ◌≤◌, List, [], ◌∷◌, ◌++◌, length, drop, Some, refl, sym, ap, subst, ◌∙◌, arith, length-append}
 use Rattle.std.proofs.lemmas.List.{drop-drop}
-use Rattle.bpf_interval.specs.Laws.{PlaceTwice}
 use Rattle.bpf_cert_format.specs.Fits.{FitsEntry}
 use Rattle.bpf_cert_format.specs.Reading.{entry_at}
 use Rattle.bpf_cert_format.specs.Spelling.{entry}
@@ -36,16 +35,16 @@ all_last bytes =
     record { short = omega arith; same = ap (λ (n : ℕ). drop n bytes) (sym none) }
 
 -- what is left after an entry
-pub entry_behind : PlaceTwice → (maps : ℕ) (bytes rest after : List ℕ) (e : EntryView) → IsBytes bytes → IsLast bytes rest → entry_at maps rest ≡ Some (e, after) → IsLast bytes after
-entry_behind twice maps bytes rest after e fits last h =
+pub entry_behind : (maps : ℕ) (bytes rest after : List ℕ) (e : EntryView) → IsBytes bytes → IsLast bytes rest → entry_at maps rest ≡ Some (e, after) → IsLast bytes after
+entry_behind maps bytes rest after e fits last h =
     let b : IsBytes rest = subst IsBytes (sym last.same) (IsBytes-drop (length bytes - length rest) bytes fits) in
-    behind bytes rest (entry e) after last ((entry_format twice maps).takes rest (e, after) b h).0.parts
+    behind bytes rest (entry e) after last ((entry_format maps).takes rest (e, after) b h).0.parts
 
 -- what is read at a position fits
-pub entry_fits : PlaceTwice → (maps place : ℕ) (bytes rest after : List ℕ) (e : EntryView) → IsBytes bytes → rest ≡ drop place bytes → entry_at maps rest ≡ Some (e, after) → FitsEntry maps e
-entry_fits twice maps place bytes rest after e fits same h =
+pub entry_fits : (maps place : ℕ) (bytes rest after : List ℕ) (e : EntryView) → IsBytes bytes → rest ≡ drop place bytes → entry_at maps rest ≡ Some (e, after) → FitsEntry maps e
+entry_fits maps place bytes rest after e fits same h =
     let b : IsBytes rest = subst IsBytes (sym same) (IsBytes-drop place bytes fits) in
-    ((entry_format twice maps).takes rest (e, after) b h).1
+    ((entry_format maps).takes rest (e, after) b h).1
 
 -- it is the entry spelled there
 pub stands_there : (t : TextView) (maps : ℕ) (bytes rest after : List ℕ) (e : EntryView) → t ≡ record { maps = maps; bytes = bytes } → IsLast bytes rest → entry_at maps rest ≡ Some (e, after) → e ≡ entry_from (record { text = t; place = length bytes - length rest })

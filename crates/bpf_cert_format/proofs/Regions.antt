@@ -3,7 +3,6 @@ use Rattle.std.proofs.Common.{◌≡◌, ℕ, ◌+◌, ◌-◌, ◌^◌, ◌<◌
 use Rattle.std.specs.Prelude.{◌&&◌}
 use Rattle.std.specs.Int.{w16, to_le_bytes}
 use Rattle.std.proofs.lemmas.Bool.{ltb-true, lt-ltb, le-ltb, leb-true, le-leb, eqb-true, eq-eqb, ne_eqb, cases_eq, and_parts}
-use Rattle.bpf_interval.specs.Laws.{PlaceTwice}
 use Rattle.bpf_absnum.specs.Number.{Num}
 use Rattle.bpf_absval.specs.declared.value.AbsRegion.{AbsRegion}
 use Rattle.bpf_absval.specs.declared.value.AbsRegion.TheVariants as place
@@ -132,20 +131,20 @@ spelled_place p = number p.0 ++ label p.1
 abbrev pub FitsPlace : Place → Type 0
 FitsPlace p = FitsNumber p.0 × FitsLabels p.1
 
-pub place_format : PlaceTwice → IsFormat Place spelled_place FitsPlace (chained number_at (λ _. label_at))
-place_format twice = chained_format Num (Option Label) number FitsNumber number_at (λ _. label) (λ _. FitsLabels) (λ _. label_at) (number_format twice) (λ x h. label_format)
+pub place_format : IsFormat Place spelled_place FitsPlace (chained number_at (λ _. label_at))
+place_format = chained_format Num (Option Label) number FitsNumber number_at (λ _. label) (λ _. FitsLabels) (λ _. label_at) number_format (λ x h. label_format)
 
 -- what follows a tag is a value
 abbrev pub Tagged : ℕ → ℕ → ℕ → List ℕ → AbsVal × List ℕ → Type 0
 Tagged maps frames tag bytes x = Takes (tag ∷ bytes) (value x.0) x.1 × FitsValue maps frames x.0 × ((tag ≡ 0 → ⊥) → FitsStored maps frames x.0)
 
-pub pointer_takes : PlaceTwice → (maps frames b : ℕ) (bytes : List ℕ) (x : AbsVal × List ℕ) → IsBytes bytes → pointer_into maps frames b bytes ≡ Some x → Tagged maps frames 2 (b ∷ bytes) x
+pub pointer_takes : (maps frames b : ℕ) (bytes : List ℕ) (x : AbsVal × List ℕ) → IsBytes bytes → pointer_into maps frames b bytes ≡ Some x → Tagged maps frames 2 (b ∷ bytes) x
 unfolding pointer_into
-pointer_takes twice maps frames b bytes x fits e =
+pointer_takes maps frames b bytes x fits e =
     elim (chosen (eqb b 0) (frame_pointer_at bytes) _ (Some x) e) [
       | inl h ↦
           let a = bind_some (chained number_at (λ _. label_at) bytes) (λ x. Some (abs.Frame x.0.0 x.0.1, x.1)) x h.1 in
-          let t = (place_format twice).takes bytes a.0 fits a.1 in
+          let t = place_format.takes bytes a.0 fits a.1 in
           let made : AbsVal × List ℕ = (abs.Frame a.0.0.0 a.0.0.1, a.0.1) in
           let zero_is : b ≡ 0 = eqb-true b 0 h.0 in
           let text = Takes-cons 2 (0 ∷ bytes) (0 ∷ spelled_place a.0.0) a.0.1 (Takes-cons 0 bytes (spelled_place a.0.0) a.0.1 t.0) in
@@ -154,7 +153,7 @@ pointer_takes twice maps frames b bytes x fits e =
       | inr h ↦
           let g = bind_some (region_named maps frames b) (λ region. read_as (abs.Pointer region) number_at bytes) x h.1 in
           let a = bind_some (number_at bytes) (λ x. Some (abs.Pointer g.0 x.0, x.1)) x g.2 in
-          let t = (number_format twice).takes bytes a.0 fits a.1 in
+          let t = number_format.takes bytes a.0 fits a.1 in
           let n = named maps frames b g.0 g.1 in
           let made : AbsVal × List ℕ = (abs.Pointer g.0 a.0.0, a.0.1) in
           let text = Takes-cons 2 (region g.0 ∷ bytes) (region g.0 ∷ number a.0.0) a.0.1 (Takes-cons (region g.0) bytes (number a.0.0) a.0.1 t.0) in

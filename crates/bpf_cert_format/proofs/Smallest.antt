@@ -5,7 +5,7 @@ use Rattle.std.proofs.lemmas.Bool.{ltb-false, le-ltb, leb-true, le-leb, eqb-true
 use Rattle.std.proofs.lemmas.List.{take_at, drop_at, take-append-drop, length-append, length-take}
 use Rattle.std.proofs.lemmas.Nat.{le_bytes_2, le_bytes_4, le_bytes_8, from_le_bytes-to_le_bytes_2, from_le_bytes-to_le_bytes_4, from_le_bytes-to_le_bytes_8}
 use Rattle.bpf_interval.specs.Signed.{place}
-use Rattle.bpf_interval.specs.Laws.{PlaceTwice}
+use Rattle.bpf_interval.proofs.SoundSigned.{place_twice}
 use Rattle.bpf_absnum.specs.Number.{Num}
 use Rattle.bpf_cert_format.specs.Fits.{FitsNumber, AreBytes}
 use Rattle.bpf_cert_format.specs.Spelling.{number}
@@ -151,10 +151,10 @@ six_format =
 place_fits : (x : ℕ) → place x < 2 ^ 64
 place_fits x = omega arith
 
-number_shape : PlaceTwice → (p : Six) → FitsSix p → (number (number_of p) ≡ spelled_six p) × FitsNumber (number_of p)
-number_shape twice p fits =
-    let low : place (place p.1.1.0) ≡ p.1.1.0 = twice p.1.1.0 fits.1.1.0.0 in
-    let high : place (place p.1.1.1) ≡ p.1.1.1 = twice p.1.1.1 fits.1.1.0.1 in (
+number_shape : (p : Six) → FitsSix p → (number (number_of p) ≡ spelled_six p) × FitsNumber (number_of p)
+number_shape p fits =
+    let low : place (place p.1.1.0) ≡ p.1.1.0 = place_twice p.1.1.0 fits.1.1.0.0 in
+    let high : place (place p.1.1.1) ≡ p.1.1.1 = place_twice p.1.1.1 fits.1.1.0.1 in (
       rw (low, high) refl,
       record {
         ordered = leb-true _ _ fits.0.1;
@@ -167,11 +167,11 @@ number_shape twice p fits =
       },
     )
 
-number_back : PlaceTwice → (n : Num) → FitsNumber n → (p : Six) × FitsSix p × (number_of p ≡ n)
-number_back twice n fits =
+number_back : (n : Num) → FitsNumber n → (p : Six) × FitsSix p × (number_of p ≡ n)
+number_back n fits =
     let low_fits : n.signed.low < 2 ^ 64 = omega (arith, fits.signed_ordered, fits.signed) in
-    let low : place (place n.signed.low) ≡ n.signed.low = twice n.signed.low low_fits in
-    let high : place (place n.signed.high) ≡ n.signed.high = twice n.signed.high fits.signed in
+    let low : place (place n.signed.low) ≡ n.signed.low = place_twice n.signed.low low_fits in
+    let high : place (place n.signed.high) ≡ n.signed.high = place_twice n.signed.high fits.signed in
     let p : Six = ((n.range.low, n.range.high), ((n.bits.value, n.bits.mask), (place n.signed.low, place n.signed.high))) in
     let signed : leb (place (place n.signed.low)) (place (place n.signed.high)) ≡ true = rw (low, high) (le-leb _ _ fits.signed_ordered) in (
       p,
@@ -182,6 +182,6 @@ number_back twice n fits =
       rw (low, high) refl,
     )
 
-pub number_format : PlaceTwice → IsFormat Num number FitsNumber number_at
+pub number_format : IsFormat Num number FitsNumber number_at
 unfolding number_at
-number_format twice = read_as_format Six Num spelled_six FitsSix six_at number FitsNumber number_of (number_shape twice) (number_back twice) six_format
+number_format = read_as_format Six Num spelled_six FitsSix six_at number FitsNumber number_of number_shape number_back six_format

@@ -7,7 +7,6 @@ use Rattle.std.proofs.lemmas.Bool.{ltb-true, lt-ltb, leb-true, le-leb, eqb-true,
 use Rattle.bpf_regions.specs.declared.hooks.Hook.{Hook}
 use Rattle.bpf_regions.specs.declared.hooks.Hook.TheVariants.{Association, Addba, Data}
 use Rattle.bpf_regions.specs.Hooks as hooks
-use Rattle.bpf_interval.specs.Laws.{PlaceTwice}
 use Rattle.bpf_absval.specs.declared.value.AbsVal.{AbsVal}
 use Rattle.bpf_absval.specs.declared.value.AbsVal.TheVariants as abs
 use Rattle.bpf_absval.specs.declared.slot.AbsSlot.{AbsSlot}
@@ -30,9 +29,9 @@ map_takes maps bytes x fits e =
     let t = (only_if_format ℕ (λ b. b ∷ []) (λ b. b < 256) byte_at (λ m. ltb m maps) byte_format).takes bytes x fits e in
     (t.0, ltb-true _ _ t.1.1)
 
-tagged_takes : PlaceTwice → (maps count tag : ℕ) (bytes : List ℕ) (x : AbsVal × List ℕ) → IsBytes bytes → value_tagged maps count tag bytes ≡ Some x → Tagged maps count tag bytes x
+tagged_takes : (maps count tag : ℕ) (bytes : List ℕ) (x : AbsVal × List ℕ) → IsBytes bytes → value_tagged maps count tag bytes ≡ Some x → Tagged maps count tag bytes x
 unfolding value_tagged
-tagged_takes twice maps count tag bytes x fits e =
+tagged_takes maps count tag bytes x fits e =
     elim (chosen (eqb tag 0) (Some (abs.Unset, bytes)) _ (Some x) e) [
       | inl h ↦
           let made : AbsVal × List ℕ = (abs.Unset, bytes) in
@@ -40,13 +39,13 @@ tagged_takes twice maps count tag bytes x fits e =
       | inr h ↦ elim (chosen (eqb tag 1) (read_as abs.Number number_at bytes) _ (Some x) h.1) [
         | inl k ↦
             let a = bind_some (number_at bytes) (λ x. Some (abs.Number x.0, x.1)) x k.1 in
-            let t = (number_format twice).takes bytes a.0 fits a.1 in
+            let t = number_format.takes bytes a.0 fits a.1 in
             let made : AbsVal × List ℕ = (abs.Number a.0.0, a.0.1) in
             subst (λ (n : ℕ). Tagged maps count n bytes x) (sym (eqb-true tag 1 k.0))
             (subst (Tagged maps count 1 bytes) (some_is made x a.2) (Takes-cons 1 bytes (number a.0.0) a.0.1 t.0, t.1, λ ne. t.1))
         | inr k ↦ elim (chosen (eqb tag 2) (byte_at bytes >>= λ b. pointer_into maps count b.0 b.1) _ (Some x) k.1) [
           | inl l ↦
-              subst (λ (n : ℕ). Tagged maps count n bytes x) (sym (eqb-true tag 2 l.0)) (behind_two twice maps count bytes x fits l.1)
+              subst (λ (n : ℕ). Tagged maps count n bytes x) (sym (eqb-true tag 2 l.0)) (behind_two maps count bytes x fits l.1)
           | inr l ↦ elim (chosen (eqb tag 3) (Some (abs.FrameEnd, bytes)) _ (Some x) l.1) [
             | inl m ↦
                 let made : AbsVal × List ℕ = (abs.FrameEnd, bytes) in
@@ -74,9 +73,9 @@ tagged_takes twice maps count tag bytes x fits e =
       ]
     ]
   where
-    behind_two : PlaceTwice → (maps count : ℕ) (bytes : List ℕ) (x : AbsVal × List ℕ) → IsBytes bytes → (byte_at bytes >>= λ b. pointer_into maps count b.0 b.1) ≡ Some x → Tagged maps count 2 bytes x
-    behind_two twice maps count [] x fits e = absurd cc
-    behind_two twice maps count (b ∷ bytes) x fits e = pointer_takes twice maps count b bytes x (IsBytes-rest b bytes fits) e
+    behind_two : (maps count : ℕ) (bytes : List ℕ) (x : AbsVal × List ℕ) → IsBytes bytes → (byte_at bytes >>= λ b. pointer_into maps count b.0 b.1) ≡ Some x → Tagged maps count 2 bytes x
+    behind_two maps count [] x fits e = absurd cc
+    behind_two maps count (b ∷ bytes) x fits e = pointer_takes maps count b bytes x (IsBytes-rest b bytes fits) e
 
 -- the tag of a value, and what follows it
 abbrev tag_of : AbsVal → ℕ
@@ -106,37 +105,37 @@ parts_of abs.FrameEnd = refl
 parts_of (abs.MapReference m) = refl
 parts_of (abs.Lookup m) = refl
 
-tagged_again : PlaceTwice → (maps count : ℕ) (v : AbsVal) (rest : List ℕ) → count ≤ 8 → FitsValue maps count v → value_tagged maps count (tag_of v) (tail_of v ++ rest) ≡ Some (v, rest)
+tagged_again : (maps count : ℕ) (v : AbsVal) (rest : List ℕ) → count ≤ 8 → FitsValue maps count v → value_tagged maps count (tag_of v) (tail_of v ++ rest) ≡ Some (v, rest)
 unfolding value_tagged pointer_into
-tagged_again twice maps count abs.Unset rest few fits = refl
-tagged_again twice maps count (abs.Number n) rest few fits = ap (λ o. o >>= λ x. Some (abs.Number x.0, x.1)) ((number_format twice).again n rest fits)
-tagged_again twice maps count (abs.Frame offset l) rest few fits = ap (λ o. o >>= λ x. Some (abs.Frame x.0.0 x.0.1, x.1)) ((place_format twice).again (offset, l) rest fits)
-tagged_again twice maps count (abs.Pointer at offset) rest few fits =
-    rw (region_some at, names maps count at few fits.0) (ap (λ o. o >>= λ x. Some (abs.Pointer at x.0, x.1)) ((number_format twice).again offset rest fits.1))
-tagged_again twice maps count abs.FrameEnd rest few fits = refl
-tagged_again twice maps count (abs.MapReference m) rest few fits = rw (lt-ltb m maps fits) refl
-tagged_again twice maps count (abs.Lookup m) rest few fits = rw (lt-ltb m maps fits) refl
+tagged_again maps count abs.Unset rest few fits = refl
+tagged_again maps count (abs.Number n) rest few fits = ap (λ o. o >>= λ x. Some (abs.Number x.0, x.1)) (number_format.again n rest fits)
+tagged_again maps count (abs.Frame offset l) rest few fits = ap (λ o. o >>= λ x. Some (abs.Frame x.0.0 x.0.1, x.1)) (place_format.again (offset, l) rest fits)
+tagged_again maps count (abs.Pointer at offset) rest few fits =
+    rw (region_some at, names maps count at few fits.0) (ap (λ o. o >>= λ x. Some (abs.Pointer at x.0, x.1)) (number_format.again offset rest fits.1))
+tagged_again maps count abs.FrameEnd rest few fits = refl
+tagged_again maps count (abs.MapReference m) rest few fits = rw (lt-ltb m maps fits) refl
+tagged_again maps count (abs.Lookup m) rest few fits = rw (lt-ltb m maps fits) refl
 
-value_takes : PlaceTwice → (maps count : ℕ) (bytes : List ℕ) (x : AbsVal × List ℕ) → IsBytes bytes → value_at maps count bytes ≡ Some x → Takes bytes (value x.0) x.1 × FitsValue maps count x.0
+value_takes : (maps count : ℕ) (bytes : List ℕ) (x : AbsVal × List ℕ) → IsBytes bytes → value_at maps count bytes ≡ Some x → Takes bytes (value x.0) x.1 × FitsValue maps count x.0
 unfolding value_at
-value_takes twice maps count [] x fits e = absurd cc
-value_takes twice maps count (tag ∷ bytes) x fits e =
-    let t = tagged_takes twice maps count tag bytes x (IsBytes-rest tag bytes fits) e in (t.0, t.1)
+value_takes maps count [] x fits e = absurd cc
+value_takes maps count (tag ∷ bytes) x fits e =
+    let t = tagged_takes maps count tag bytes x (IsBytes-rest tag bytes fits) e in (t.0, t.1)
 
-value_again : PlaceTwice → (maps count : ℕ) (v : AbsVal) (rest : List ℕ) → count ≤ 8 → FitsValue maps count v → value_at maps count (value v ++ rest) ≡ Some (v, rest)
+value_again : (maps count : ℕ) (v : AbsVal) (rest : List ℕ) → count ≤ 8 → FitsValue maps count v → value_at maps count (value v ++ rest) ≡ Some (v, rest)
 unfolding value_at
-value_again twice maps count v rest few fits =
-    ap (λ (w : List ℕ). value_at maps count (w ++ rest)) (parts_of v) ∙ tagged_again twice maps count v rest few fits
+value_again maps count v rest few fits =
+    ap (λ (w : List ℕ). value_at maps count (w ++ rest)) (parts_of v) ∙ tagged_again maps count v rest few fits
 
-pub value_format : PlaceTwice → (maps count : ℕ) → count ≤ 8 → IsFormat AbsVal value (FitsValue maps count) (value_at maps count)
-value_format twice maps count few = record { takes = value_takes twice maps count; again = λ v rest fits. value_again twice maps count v rest few fits }
+pub value_format : (maps count : ℕ) → count ≤ 8 → IsFormat AbsVal value (FitsValue maps count) (value_at maps count)
+value_format maps count few = record { takes = value_takes maps count; again = λ v rest fits. value_again maps count v rest few fits }
 
 -- ---- stack slots
 
-cell_takes : PlaceTwice → (maps count : ℕ) (bytes : List ℕ) (x : AbsSlot × List ℕ) → IsBytes bytes → cell_at maps count bytes ≡ Some x → Takes bytes (cell x.0) x.1 × FitsCell maps count x.0
+cell_takes : (maps count : ℕ) (bytes : List ℕ) (x : AbsSlot × List ℕ) → IsBytes bytes → cell_at maps count bytes ≡ Some x → Takes bytes (cell x.0) x.1 × FitsCell maps count x.0
 unfolding cell_at
-cell_takes twice maps count [] x fits e = absurd cc
-cell_takes twice maps count (tag ∷ bytes) x fits e =
+cell_takes maps count [] x fits e = absurd cc
+cell_takes maps count (tag ∷ bytes) x fits e =
     let rest_fits = IsBytes-rest tag bytes fits in
     elim (chosen (eqb tag 0) (Some (slot.Unset, bytes)) _ (Some x) e) [
       | inl h ↦
@@ -152,7 +151,7 @@ cell_takes twice maps count (tag ∷ bytes) x fits e =
             (subst (λ (y : AbsSlot × List ℕ). Takes (6 ∷ bytes) (cell y.0) y.1 × FitsCell maps count y.0) (some_is made x a.2) (Takes-cons 6 bytes (a.0.0 ∷ []) a.0.1 t.0, t.1))
         | inr k ↦
             let a = bind_some (value_tagged maps count tag bytes) (λ x. Some (slot.Stored x.0, x.1)) x k.1 in
-            let t = tagged_takes twice maps count tag bytes a.0 rest_fits a.1 in
+            let t = tagged_takes maps count tag bytes a.0 rest_fits a.1 in
             let made : AbsSlot × List ℕ = (slot.Stored a.0.0, a.0.1) in
             let set : tag ≡ 0 → ⊥ = λ z. true≢false (sym (eq-eqb tag 0 z) ∙ h.0) in
             subst (λ (y : AbsSlot × List ℕ). Takes (tag ∷ bytes) (cell y.0) y.1 × FitsCell maps count y.0) (some_is made x a.2) (t.0, t.2 set)
@@ -169,18 +168,18 @@ stored_tag maps count abs.FrameEnd fits = (refl, refl, fits)
 stored_tag maps count (abs.MapReference m) fits = (refl, refl, fits)
 stored_tag maps count (abs.Lookup m) fits = (refl, refl, fits)
 
-cell_again : PlaceTwice → (maps count : ℕ) (s : AbsSlot) (rest : List ℕ) → count ≤ 8 → FitsCell maps count s → cell_at maps count (cell s ++ rest) ≡ Some (s, rest)
+cell_again : (maps count : ℕ) (s : AbsSlot) (rest : List ℕ) → count ≤ 8 → FitsCell maps count s → cell_at maps count (cell s ++ rest) ≡ Some (s, rest)
 unfolding cell_at
-cell_again twice maps count slot.Unset rest few fits = refl
-cell_again twice maps count (slot.Stored v) rest few fits =
+cell_again maps count slot.Unset rest few fits = refl
+cell_again maps count (slot.Stored v) rest few fits =
     let t = stored_tag maps count v fits in
     let so : cell_at maps count (tag_of v ∷ (tail_of v ++ rest)) ≡ (value_tagged maps count (tag_of v) (tail_of v ++ rest) >>= λ x. Some (slot.Stored x.0, x.1)) = rw (t.0, t.1) refl in
     ap (λ (w : List ℕ). cell_at maps count (w ++ rest)) (parts_of v) ∙ so
-    ∙ ap (λ (o : Option (AbsVal × List ℕ)). o >>= λ x. Some (slot.Stored x.0, x.1)) (tagged_again twice maps count v rest few t.2)
-cell_again twice maps count (slot.Bytes set) rest few fits = refl
+    ∙ ap (λ (o : Option (AbsVal × List ℕ)). o >>= λ x. Some (slot.Stored x.0, x.1)) (tagged_again maps count v rest few t.2)
+cell_again maps count (slot.Bytes set) rest few fits = refl
 
-pub cell_format : PlaceTwice → (maps count : ℕ) → count ≤ 8 → IsFormat AbsSlot cell (FitsCell maps count) (cell_at maps count)
-cell_format twice maps count few = record { takes = cell_takes twice maps count; again = λ s rest fits. cell_again twice maps count s rest few fits }
+pub cell_format : (maps count : ℕ) → count ≤ 8 → IsFormat AbsSlot cell (FitsCell maps count) (cell_at maps count)
+cell_format maps count few = record { takes = cell_takes maps count; again = λ s rest fits. cell_again maps count s rest few fits }
 
 -- ---- call frames
 
@@ -190,26 +189,26 @@ Held = List AbsVal × List AbsSlot
 abbrev FitsHeld : ℕ → ℕ → Held → Type 0
 FitsHeld maps count p = (AllByRecursion (FitsValue maps count) p.0 × (length p.0 ≡ 10)) × (AllByRecursion (FitsCell maps count) p.1 × (length p.1 ≡ 64))
 
-held_format : PlaceTwice → (maps count : ℕ) → count ≤ 8 →
+held_format : (maps count : ℕ) → count ≤ 8 →
     IsFormat Held (λ p. flat_map value p.0 ++ flat_map cell p.1) (FitsHeld maps count) (chained (many (value_at maps count) 10) (λ _. many (cell_at maps count) 64))
-held_format twice maps count few =
+held_format maps count few =
     chained_format (List AbsVal) (List AbsSlot) (flat_map value) (λ xs. AllByRecursion (FitsValue maps count) xs × (length xs ≡ 10)) (many (value_at maps count) 10)
     (λ _. flat_map cell) (λ _ xs. AllByRecursion (FitsCell maps count) xs × (length xs ≡ 64)) (λ _. many (cell_at maps count) 64)
-    (many_format AbsVal value (FitsValue maps count) (value_at maps count) 10 (value_format twice maps count few))
-    (λ x h. many_format AbsSlot cell (FitsCell maps count) (cell_at maps count) 64 (cell_format twice maps count few))
+    (many_format AbsVal value (FitsValue maps count) (value_at maps count) 10 (value_format maps count few))
+    (λ x h. many_format AbsSlot cell (FitsCell maps count) (cell_at maps count) 64 (cell_format maps count few))
 
 abbrev frame_of : ℕ × Held → Frame
 frame_of p = record { return_slot = p.0; registers = p.1.0; stack = p.1.1 }
 
-frame_format : PlaceTwice → (maps count : ℕ) → count ≤ 8 → IsFormat Frame frame (FitsFrame maps count) (frame_at maps count)
+frame_format : (maps count : ℕ) → count ≤ 8 → IsFormat Frame frame (FitsFrame maps count) (frame_at maps count)
 unfolding frame_at
-frame_format twice maps count few =
+frame_format maps count few =
     read_as_format (ℕ × Held) Frame (λ p. to_le_bytes w16 p.0 ++ (flat_map value p.1.0 ++ flat_map cell p.1.1)) (λ p. (p.0 < 2 ^ 16) × FitsHeld maps count p.1)
     (chained (word_at w16) (λ _. chained (many (value_at maps count) 10) (λ _. many (cell_at maps count) 64))) frame (FitsFrame maps count) frame_of
     (λ p fits. (refl, record { return_slot = fits.0; registers = fits.1.0.1; values = fits.1.0.0; stack = fits.1.1.1; cells = fits.1.1.0 }))
     (λ f fits. ((f.return_slot, (f.registers, f.stack)), (fits.return_slot, ((fits.values, fits.registers), (fits.cells, fits.stack))), refl))
     (chained_format ℕ Held (to_le_bytes w16) (λ n. n < 2 ^ 16) (word_at w16) (λ _ p. flat_map value p.0 ++ flat_map cell p.1) (λ _. FitsHeld maps count)
-    (λ _. chained (many (value_at maps count) 10) (λ _. many (cell_at maps count) 64)) (word_format w16 (2 ^ 16) wide16) (λ x h. held_format twice maps count few))
+    (λ _. chained (many (value_at maps count) 10) (λ _. many (cell_at maps count) 64)) (word_format w16 (2 ^ 16) wide16) (λ x h. held_format maps count few))
 
 abbrev FitsFrames : ℕ → List Frame → Type 0
 FitsFrames maps fs = (1 ≤ length fs) × (length fs ≤ 8) × AllByRecursion (FitsFrame maps (length fs)) fs
@@ -220,12 +219,12 @@ Counted A = ℕ × List A
 abbrev FitsCounted : ℕ → Counted Frame → Type 0
 FitsCounted maps p = ((p.0 < 256) × (is_count p.0 ≡ true)) × (AllByRecursion (FitsFrame maps p.0) p.1 × (length p.1 ≡ p.0))
 
-counted_frames : PlaceTwice → (maps : ℕ) → IsFormat (Counted Frame) (λ p. (p.0 ∷ []) ++ flat_map frame p.1) (FitsCounted maps) (chained (only_if is_count byte_at) (λ n. many (frame_at maps n) n))
-counted_frames twice maps =
+counted_frames : (maps : ℕ) → IsFormat (Counted Frame) (λ p. (p.0 ∷ []) ++ flat_map frame p.1) (FitsCounted maps) (chained (only_if is_count byte_at) (λ n. many (frame_at maps n) n))
+counted_frames maps =
     chained_format ℕ (List Frame) (λ b. b ∷ []) (λ n. (n < 256) × (is_count n ≡ true)) (only_if is_count byte_at) (λ _. flat_map frame)
     (λ n fs. AllByRecursion (FitsFrame maps n) fs × (length fs ≡ n)) (λ n. many (frame_at maps n) n)
     (only_if_format ℕ (λ b. b ∷ []) (λ b. b < 256) byte_at is_count byte_format)
-    (λ n h. many_format Frame frame (FitsFrame maps n) (frame_at maps n) n (frame_format twice maps n (leb-true _ _ (and_parts (leb 1 n) (leb n 8) h.1).1)))
+    (λ n h. many_format Frame frame (FitsFrame maps n) (frame_at maps n) n (frame_format maps n (leb-true _ _ (and_parts (leb 1 n) (leb n 8) h.1).1)))
 
 counted_shape : (maps : ℕ) (p : Counted Frame) → FitsCounted maps p → (frames p.1 ≡ (p.0 ∷ []) ++ flat_map frame p.1) × FitsFrames maps p.1
 counted_shape maps p fits =
@@ -244,13 +243,13 @@ counted_back maps fs fits =
 abbrev FitsMain : ℕ → List Frame → Type 0
 FitsMain maps fs = FitsFrames maps fs × (is_main_first fs ≡ true)
 
-frames_format : PlaceTwice → (maps : ℕ) → IsFormat (List Frame) frames (FitsMain maps) (frames_at maps)
+frames_format : (maps : ℕ) → IsFormat (List Frame) frames (FitsMain maps) (frames_at maps)
 unfolding frames_at
-frames_format twice maps =
+frames_format maps =
     let counted = chained (only_if is_count byte_at) (λ n. many (frame_at maps n) n) in
     only_if_format (List Frame) frames (FitsFrames maps) (read_as (λ p. p.1) counted) is_main_first
     (read_as_format (Counted Frame) (List Frame) (λ p. (p.0 ∷ []) ++ flat_map frame p.1) (FitsCounted maps) counted frames (FitsFrames maps) (λ p. p.1)
-    (counted_shape maps) (counted_back maps) (counted_frames twice maps))
+    (counted_shape maps) (counted_back maps) (counted_frames maps))
 
 -- ---- bytes known to follow labels
 
@@ -317,10 +316,10 @@ spelled_parts p = to_le_bytes w16 p.0 ++ (to_le_bytes w32 p.1.0 ++ (to_le_bytes 
 abbrev FitsParts : ℕ → Parts → Type 0
 FitsParts maps p = (p.0 < 2 ^ 16) × ((p.1.0 < 2 ^ 32) × ((p.1.1.0 < 2 ^ 16) × (FitsRooms p.1.1.1.0 × FitsMain maps p.1.1.1.1)))
 
-parts_format : PlaceTwice → (maps : ℕ) →
+parts_format : (maps : ℕ) →
     IsFormat Parts spelled_parts (FitsParts maps) (chained (word_at w16) (λ _. chained (word_at w32) (λ _. chained (word_at w16) (λ _. chained rooms_at (λ _. frames_at maps)))))
-parts_format twice maps =
-    let two = chained_format (List Room) (List Frame) rooms FitsRooms rooms_at (λ _. frames) (λ _. FitsMain maps) (λ _. frames_at maps) rooms_format (λ x h. frames_format twice maps) in
+parts_format maps =
+    let two = chained_format (List Room) (List Frame) rooms FitsRooms rooms_at (λ _. frames) (λ _. FitsMain maps) (λ _. frames_at maps) rooms_format (λ x h. frames_format maps) in
     let three = chained_format ℕ (List Room × List Frame) (to_le_bytes w16) (λ n. n < 2 ^ 16) (word_at w16) (λ _ p. rooms p.0 ++ frames p.1) (λ _ p. FitsRooms p.0 × FitsMain maps p.1) (λ _. chained rooms_at (λ _. frames_at maps)) (word_format w16 (2 ^ 16) wide16) (λ x h. two) in
     let four = chained_format ℕ (ℕ × (List Room × List Frame)) (to_le_bytes w32) (λ n. n < 2 ^ 32) (word_at w32) (λ _ p. to_le_bytes w16 p.0 ++ (rooms p.1.0 ++ frames p.1.1)) (λ _ p. (p.0 < 2 ^ 16) × (FitsRooms p.1.0 × FitsMain maps p.1.1)) (λ _. chained (word_at w16) (λ _. chained rooms_at (λ _. frames_at maps))) (word_format w32 (2 ^ 32) wide32) (λ x h. three) in
     chained_format ℕ (ℕ × (ℕ × (List Room × List Frame))) (to_le_bytes w16) (λ n. n < 2 ^ 16) (word_at w16) (λ _ p. to_le_bytes w32 p.0 ++ (to_le_bytes w16 p.1.0 ++ (rooms p.1.1.0 ++ frames p.1.1.1))) (λ _ p. (p.0 < 2 ^ 32) × ((p.1.0 < 2 ^ 16) × (FitsRooms p.1.1.0 × FitsMain maps p.1.1.1))) (λ _. chained (word_at w32) (λ _. chained (word_at w16) (λ _. chained rooms_at (λ _. frames_at maps)))) (word_format w16 (2 ^ 16) wide16) (λ x h. four)
@@ -340,11 +339,11 @@ entry_back maps e fits =
       refl,
     )
 
-pub entry_format : PlaceTwice → (maps : ℕ) → IsFormat EntryView entry (FitsEntry maps) (entry_at maps)
+pub entry_format : (maps : ℕ) → IsFormat EntryView entry (FitsEntry maps) (entry_at maps)
 unfolding entry_at
-entry_format twice maps =
+entry_format maps =
     read_as_format Parts EntryView spelled_parts (FitsParts maps) (chained (word_at w16) (λ _. chained (word_at w32) (λ _. chained (word_at w16) (λ _. chained rooms_at (λ _. frames_at maps))))) entry (FitsEntry maps) entry_of
-    (entry_shape maps) (entry_back maps) (parts_format twice maps)
+    (entry_shape maps) (entry_back maps) (parts_format maps)
 
 -- ---- the whole
 
@@ -400,14 +399,14 @@ code_format =
 abbrev FitsEntries : ℕ → List EntryView → Type 0
 FitsEntries maps es = (length es < 2 ^ 32) × AllByRecursion (FitsEntry maps) es
 
-entries_format : PlaceTwice → (maps : ℕ) → IsFormat (List EntryView) entries (FitsEntries maps) (entries_at maps)
+entries_format : (maps : ℕ) → IsFormat (List EntryView) entries (FitsEntries maps) (entries_at maps)
 unfolding entries_at
-entries_format twice maps =
+entries_format maps =
     read_as_format (Counted EntryView) (List EntryView) (λ p. to_le_bytes w32 p.0 ++ flat_map entry p.1) (λ p. (p.0 < 2 ^ 32) × (AllByRecursion (FitsEntry maps) p.1 × (length p.1 ≡ p.0))) (chained (word_at w32) (λ n. many (entry_at maps) n)) entries (FitsEntries maps) (λ p. p.1)
     (λ p fits. (ap (λ (n : ℕ). to_le_bytes w32 n ++ flat_map entry p.1) fits.1.1, (let len = fits.1.1 in omega (arith, len, fits.0), fits.1.0)))
     (λ es fits. ((length es, es), (fits.0, (fits.1, refl)), refl))
     (chained_format ℕ (List EntryView) (to_le_bytes w32) (λ n. n < 2 ^ 32) (word_at w32) (λ _. flat_map entry) (λ n es. AllByRecursion (FitsEntry maps) es × (length es ≡ n)) (λ n. many (entry_at maps) n)
-    (word_format w32 (2 ^ 32) wide32) (λ n h. many_format EntryView entry (FitsEntry maps) (entry_at maps) n (entry_format twice maps)))
+    (word_format w32 (2 ^ 32) wide32) (λ n h. many_format EntryView entry (FitsEntry maps) (entry_at maps) n (entry_format maps)))
 
 abbrev All : Type 0
 All = ℕ × (Hook × (List ℕ × List EntryView))
@@ -418,9 +417,9 @@ spelled_all p = to_le_bytes w32 p.0 ++ ((hooks.number_of p.1.0 ∷ []) ++ (code 
 abbrev FitsAll : ℕ → All → Type 0
 FitsAll maps p = ((p.0 < 2 ^ 32) × (eqb p.0 843272257 ≡ true)) × (Unit {0} × (FitsCode p.1.1.0 × FitsEntries maps p.1.1.1))
 
-all_format : PlaceTwice → (maps : ℕ) → IsFormat All spelled_all (FitsAll maps) (chained magic_at (λ _. chained hook_at (λ _. chained code_at (λ _. entries_at maps))))
-all_format twice maps =
-    let two = chained_format (List ℕ) (List EntryView) code FitsCode code_at (λ _. entries) (λ _. FitsEntries maps) (λ _. entries_at maps) code_format (λ x h. entries_format twice maps) in
+all_format : (maps : ℕ) → IsFormat All spelled_all (FitsAll maps) (chained magic_at (λ _. chained hook_at (λ _. chained code_at (λ _. entries_at maps))))
+all_format maps =
+    let two = chained_format (List ℕ) (List EntryView) code FitsCode code_at (λ _. entries) (λ _. FitsEntries maps) (λ _. entries_at maps) code_format (λ x h. entries_format maps) in
     let three = chained_format Hook (List ℕ × List EntryView) (λ h. hooks.number_of h ∷ []) (λ _. Unit {0}) hook_at (λ _ p. code p.0 ++ entries p.1) (λ _ p. FitsCode p.0 × FitsEntries maps p.1) (λ _. chained code_at (λ _. entries_at maps)) hook_format (λ x h. two) in
     chained_format ℕ (Hook × (List ℕ × List EntryView)) (to_le_bytes w32) (λ n. (n < 2 ^ 32) × (eqb n 843272257 ≡ true)) magic_at (λ _ p. (hooks.number_of p.0 ∷ []) ++ (code p.1.0 ++ entries p.1.1)) (λ _ p. Unit {0} × (FitsCode p.1.0 × FitsEntries maps p.1.1)) (λ _. chained hook_at (λ _. chained code_at (λ _. entries_at maps))) magic_format (λ x h. three)
 
@@ -438,8 +437,8 @@ certificate_back : (maps : ℕ) (c : CertificateView) → FitsCertificate maps c
 certificate_back maps c fits =
     ((843272257, (c.hook, (c.code, c.entries))), ((omega arith, refl), (tt, ((fits.slots, fits.few_slots, fits.whole, fits.bytes), (fits.few, fits.entries)))), refl)
 
-pub certificate_format : PlaceTwice → (maps : ℕ) → IsFormat CertificateView spelling (FitsCertificate maps) (certificate_at maps)
+pub certificate_format : (maps : ℕ) → IsFormat CertificateView spelling (FitsCertificate maps) (certificate_at maps)
 unfolding certificate_at
-certificate_format twice maps =
+certificate_format maps =
     read_as_format All CertificateView spelled_all (FitsAll maps) (chained magic_at (λ _. chained hook_at (λ _. chained code_at (λ _. entries_at maps)))) spelling (FitsCertificate maps) certificate_of
-    (certificate_shape maps) (certificate_back maps) (all_format twice maps)
+    (certificate_shape maps) (certificate_back maps) (all_format maps)

@@ -10,7 +10,6 @@ ghost use Rattle.bpf_cert_format.specs.Reading.{byte_at as reads_byte, word_at a
 use crate::fault::ReadFault;
 use bpf_absnum::AbsNum;
 use bpf_absval::Label;
-use bpf_interval::laws::place_law;
 use bpf_interval::{Interval, SignedInterval};
 use bpf_tnum::Tnum;
 
@@ -85,11 +84,11 @@ fn pair_at(bytes: &[u8]) -> Result<((u64, u64), &[u8]), ReadFault>
 }
 
 /// The signed interval between two words read as signed, if they are in order.
+#[tactic(auto, using(bpf_interval::proofs::SoundSigned::places_order))]
 fn signed_between(low: u64, high: u64) -> Option<SignedInterval>
     ensures is { result ≡ (if nat_le (place low) (place high) then Some
         (bounds (place low) (place high)) else None) }
 {
-    place_law();
     let low = low.cast_signed();
     let high = high.cast_signed();
     if high < low {

@@ -14,7 +14,6 @@ use crate::fields::{byte_at, bytes_at, u16_at, u32_at};
 use crate::leaf::Leaf;
 use crate::parts::entry_at;
 use crate::unread::{Text, Unread};
-use bpf_interval::laws::place_law;
 use bpf_regions::{Hook, Shapes};
 use std::alloc::{AllocError, Global};
 use std::rc::Rc;
@@ -92,7 +91,6 @@ fn leaf_list_at(
     ensures is { Gives (λ x. (x.0.items, x.1.now)) result
         (many (reads_entry maps) count bytes.now) }
 {
-    place_law();
     let text = Text::shared(alloc, maps, bytes)?;
     let mut list = Vec::new(alloc);
     let mut rest = bytes;
@@ -153,6 +151,5 @@ pub fn read(alloc: Global, shapes: &Shapes, bytes: &[u8]) -> Result<Certificate,
     ensures only { (c : CertificateView) → Spells shapes.now bytes.now c → Reads result c }
 {
     shapes.whole();
-    place_law();
     all(alloc, shapes.len(), bytes)
 }

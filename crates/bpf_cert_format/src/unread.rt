@@ -7,7 +7,6 @@ ghost use Rattle.bpf_cert_format.specs.Unread.{entry_read, entry_from};
 
 use crate::entry::Entry;
 use crate::parts::entry_at;
-use bpf_interval::laws::place_law;
 use std::alloc::{AllocError, Global};
 use std::marker::Model;
 use std::rc::Rc;
@@ -41,7 +40,6 @@ fn entry_in_bytes(
     ensures is { IfOk result (λ entry. entry ≡ entry_read (reads_entry maps (drop place bytes.now))) }
     ensures fits { IfOk result (FitsEntry maps) }
 {
-    place_law();
     if place > bytes.len() {
         return Err(AllocError);
     }

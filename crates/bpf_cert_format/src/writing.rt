@@ -15,17 +15,16 @@ use crate::frame::Frame;
 use crate::leaf::{Kind, Leaf};
 use bpf_absnum::AbsNum;
 use bpf_absval::{AbsRegion, AbsSlot, AbsVal, Label, Room};
-use bpf_interval::laws::place_law;
 use bpf_interval::{Interval, SignedInterval};
 use bpf_tnum::Tnum;
 use std::alloc::{AllocError, Global};
 
 /// The least and the greatest number, as words.
+#[tactic(auto, using(bpf_interval::proofs::SoundSigned::place_twice))]
 fn words_of(signed: SignedInterval) -> (u64, u64)
     ensures low { result.0 ≡ word_at signed.low }
     ensures high { result.1 ≡ word_at signed.high }
 {
-    place_law();
     let low = signed.low().cast_unsigned();
     let high = signed.high().cast_unsigned();
     (low, high)

@@ -7,7 +7,7 @@ use Rattle.bpf_regions.specs.declared.memory.Value.{Value}
 use Rattle.bpf_regions.specs.declared.memory.Value.TheVariants as value
 use Rattle.bpf_regions.specs.declared.memory.Region.TheVariants as region
 use Rattle.bpf_model.specs.Alu.{computed, alu as alu_value, numbers as numbers_value, sum as sum_value, difference as difference_value, moved as moved_value}
-use Rattle.bpf_absnum.specs.Laws.{AluContains}
+use Rattle.bpf_absnum.proofs.Instructions.{alu_keeps}
 use Rattle.bpf_absnum.specs.Number.{Num, InNum, is_single}
 use Rattle.bpf_absnum.specs.Transfer.{num_alu}
 use Rattle.bpf_absval.specs.declared.value.AbsRegion.{AbsRegion}
@@ -46,10 +46,10 @@ moves_set e rooms v (value.MapReference m) u h = refl
 moves_set e rooms Unset value.Unset u h = absurd (true≢false u)
 moves_set e rooms v value.Unset u h = absurd h
 
-module _ (e : Labels) (rooms : List Room) (alus : AluContains) where
+module _ (e : Labels) (rooms : List Room) where
   moves_number : (wide : Bool) (n : Num) (y : Value) → Holds e rooms (Number n) y → Gives e rooms (moved_value wide y) (Number (num_alu wide Mov n n))
-  moves_number true n (value.Number m) h = (value.Number m, refl, alus true Mov n n m m h h)
-  moves_number false n (value.Number m) h = (value.Number (m % 2 ^ 32), refl, alus false Mov n n m m h h)
+  moves_number true n (value.Number m) h = (value.Number m, refl, alu_keeps true Mov n n m m h h)
+  moves_number false n (value.Number m) h = (value.Number (m % 2 ^ 32), refl, alu_keeps false Mov n n m m h h)
   moves_number wide n y h = absurd h
 
   moves_value : (v w : AbsVal) (y : Value) → is_unset v ≡ false → Holds e rooms v y → v ≡ w → Gives e rooms (moved_value true y) w
@@ -63,7 +63,7 @@ module _ (e : Labels) (rooms : List Room) (alus : AluContains) where
 
   both_numbers : (wide : Bool) (op : AluOp) (m n : Num) (x y : Value) → Holds e rooms (Number m) x → Holds e rooms (Number n) y →
       Gives e rooms (numbers_value wide op x y) (Number (num_alu wide op m n))
-  both_numbers wide op m n (value.Number x) (value.Number y) h k = (value.Number (computed wide op x y), refl, alus wide op m n x y h k)
+  both_numbers wide op m n (value.Number x) (value.Number y) h k = (value.Number (computed wide op x y), refl, alu_keeps wide op m n x y h k)
   both_numbers wide op m n (value.Number x) y h k = absurd k
   both_numbers wide op m n x y h k = absurd h
 
@@ -87,49 +87,49 @@ module _ (e : Labels) (rooms : List Room) (alus : AluContains) where
     number_and_frame : (n o : Num) (l : Option Label) (x y : Value) → Holds e rooms (Number n) x → Holds e rooms (Frame o l) y →
         Makes e rooms pc (not (is_single n)) (sum_value x y) (Frame (num_alu true Add o n) (label_after pc word_add n l))
     number_and_frame n o l (value.Number c) (value.Pointer region.Frame x) h k =
-        (value.Pointer region.Frame (word_add x c), refl, frame_moves pc word_add (num_alu true Add o n) n l x c add_moves h k.1 (alus true Add o n x c k.0 h))
+        (value.Pointer region.Frame (word_add x c), refl, frame_moves pc word_add (num_alu true Add o n) n l x c add_moves h k.1 (alu_keeps true Add o n x c k.0 h))
     number_and_frame n o l (value.Number c) y h k = absurd k
     number_and_frame n o l x y h k = absurd h
 
     frame_and_number : (o n : Num) (l : Option Label) (x y : Value) → Holds e rooms (Frame o l) x → Holds e rooms (Number n) y →
         Makes e rooms pc (not (is_single n)) (sum_value x y) (Frame (num_alu true Add o n) (label_after pc word_add n l))
     frame_and_number o n l (value.Pointer region.Frame x) (value.Number c) h k =
-        (value.Pointer region.Frame (word_add x c), refl, frame_moves pc word_add (num_alu true Add o n) n l x c add_moves k h.1 (alus true Add o n x c h.0 k))
+        (value.Pointer region.Frame (word_add x c), refl, frame_moves pc word_add (num_alu true Add o n) n l x c add_moves k h.1 (alu_keeps true Add o n x c h.0 k))
     frame_and_number o n l (value.Pointer region.Frame x) y h k = absurd k
     frame_and_number o n l x y h k = absurd h
 
     frame_less_number : (o n : Num) (l : Option Label) (x y : Value) → Holds e rooms (Frame o l) x → Holds e rooms (Number n) y →
         Makes e rooms pc (not (is_single n)) (difference_value x y) (Frame (num_alu true Sub o n) (label_after pc word_sub n l))
     frame_less_number o n l (value.Pointer region.Frame x) (value.Number c) h k =
-        (value.Pointer region.Frame (word_sub x c), refl, frame_moves pc word_sub (num_alu true Sub o n) n l x c sub_moves k h.1 (alus true Sub o n x c h.0 k))
+        (value.Pointer region.Frame (word_sub x c), refl, frame_moves pc word_sub (num_alu true Sub o n) n l x c sub_moves k h.1 (alu_keeps true Sub o n x c h.0 k))
     frame_less_number o n l (value.Pointer region.Frame x) y h k = absurd k
     frame_less_number o n l x y h k = absurd h
 
     number_and_pointer : (n o : Num) (r : AbsRegion) (x y : Value) → Holds e rooms (Number n) x → Holds e rooms (Pointer r o) y →
         Gives e rooms (sum_value x y) (Pointer r (num_alu true Add o n))
-    number_and_pointer n o r (value.Number c) (value.Pointer s x) h k = (value.Pointer s (word_add x c), refl, (k.0, alus true Add o n x c k.1 h))
+    number_and_pointer n o r (value.Number c) (value.Pointer s x) h k = (value.Pointer s (word_add x c), refl, (k.0, alu_keeps true Add o n x c k.1 h))
     number_and_pointer n o r (value.Number c) y h k = absurd k
     number_and_pointer n o r x y h k = absurd h
 
     pointer_and_number : (o n : Num) (r : AbsRegion) (x y : Value) → Holds e rooms (Pointer r o) x → Holds e rooms (Number n) y →
         Gives e rooms (sum_value x y) (Pointer r (num_alu true Add o n))
-    pointer_and_number o n r (value.Pointer s x) (value.Number c) h k = (value.Pointer s (word_add x c), refl, (h.0, alus true Add o n x c h.1 k))
+    pointer_and_number o n r (value.Pointer s x) (value.Number c) h k = (value.Pointer s (word_add x c), refl, (h.0, alu_keeps true Add o n x c h.1 k))
     pointer_and_number o n r (value.Pointer s x) y h k = absurd k
     pointer_and_number o n r x y h k = absurd h
 
     pointer_less_number : (o n : Num) (r : AbsRegion) (x y : Value) → Holds e rooms (Pointer r o) x → Holds e rooms (Number n) y →
         Gives e rooms (difference_value x y) (Pointer r (num_alu true Sub o n))
-    pointer_less_number o n r (value.Pointer s x) (value.Number c) h k = (value.Pointer s (word_sub x c), refl, (h.0, alus true Sub o n x c h.1 k))
+    pointer_less_number o n r (value.Pointer s x) (value.Number c) h k = (value.Pointer s (word_sub x c), refl, (h.0, alu_keeps true Sub o n x c h.1 k))
     pointer_less_number o n r (value.Pointer s x) y h k = absurd k
     pointer_less_number o n r x y h k = absurd h
 
     sum_of_numbers : (m n : Num) (x y : Value) → Holds e rooms (Number m) x → Holds e rooms (Number n) y → Gives e rooms (sum_value x y) (Number (num_alu true Add m n))
-    sum_of_numbers m n (value.Number x) (value.Number y) h k = (value.Number (word_add x y), refl, alus true Add m n x y h k)
+    sum_of_numbers m n (value.Number x) (value.Number y) h k = (value.Number (word_add x y), refl, alu_keeps true Add m n x y h k)
     sum_of_numbers m n (value.Number x) y h k = absurd k
     sum_of_numbers m n x y h k = absurd h
 
     difference_of_numbers : (m n : Num) (x y : Value) → Holds e rooms (Number m) x → Holds e rooms (Number n) y → Gives e rooms (difference_value x y) (Number (num_alu true Sub m n))
-    difference_of_numbers m n (value.Number x) (value.Number y) h k = (value.Number (word_sub x y), refl, alus true Sub m n x y h k)
+    difference_of_numbers m n (value.Number x) (value.Number y) h k = (value.Number (word_sub x y), refl, alu_keeps true Sub m n x y h k)
     difference_of_numbers m n (value.Number x) y h k = absurd k
     difference_of_numbers m n x y h k = absurd h
 

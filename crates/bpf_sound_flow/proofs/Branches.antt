@@ -14,8 +14,9 @@ use Rattle.bpf_words.specs.Word.{word_of}
 use Rattle.bpf_model.specs.State.{State, reg}
 use Rattle.bpf_model.specs.Alu.{holds, is_zero, wide_test, narrow_test, taken, source_value as source_of, null_test as null_value, end_test as end_value}
 use Rattle.bpf_absnum.specs.Branch.{num_branch, compares}
-use Rattle.bpf_absnum.specs.Laws.{BranchKeeps, SingleContains}
 use Rattle.bpf_absnum.specs.Number.{Num, InNum, num_single, is_single}
+use Rattle.bpf_absnum.proofs.Branches.{branch_keeps}
+use Rattle.bpf_absnum.proofs.Rows.{single_keeps}
 use Rattle.bpf_absval.specs.declared.value.AbsRegion.{AbsRegion}
 use Rattle.bpf_absval.specs.declared.value.AbsRegion.TheVariants as place
 use Rattle.bpf_absval.specs.declared.value.AbsVal.{AbsVal}
@@ -24,13 +25,14 @@ use Rattle.bpf_absval.specs.declared.value.Label.{Label}
 use Rattle.bpf_absval.specs.declared.room.Room.{Room}
 use Rattle.bpf_absval.specs.Meaning.{Labels, Holds, LabelHolds, RegionHolds}
 use Rattle.bpf_absstate.specs.Contains.{HoldsIn}
-use Rattle.bpf_absstate.specs.Laws.{LeastHolds, RoomsHold}
 use Rattle.bpf_absstate.specs.View.{View, register, with_register, with_least, with_room}
+use Rattle.bpf_absstate.proofs.Followed.{refinement_holds}
+use Rattle.bpf_absstate.proofs.Kept.{registers_hold}
+use Rattle.bpf_absstate.proofs.Known.{least_holds, rooms_hold}
 use Rattle.bpf_rules.specs.Branches.{Split, compared_value, is_itself, narrowed, with_source, with_operands, number_way, number_ways, null_test, by_null, lookup_ways, pointer_ways, Lesson, Nothing, AtMost, Below, turned, lesson, with_reach, learnt, taught, end_ways, end_test, is_order, wide_ways, narrow_ways, split}
 use Rattle.bpf_sound_flow.proofs.Alu.{number_held}
 use Rattle.bpf_words.proofs.Immediates.{word_fits}
 use Rattle.bpf_rules.proofs.Outcomes.{refused-okay, okay-same}
-use Rattle.bpf_sound_flow.proofs.States.{Known}
 
 -- the state is on a branch that is visited
 abbrev pub InWay : Labels → Option View → State → Type 0
@@ -139,8 +141,7 @@ end_test_is a o l (Some d) w e = (d, refl, okay-same _ w e)
 low_half : (n : ℕ) → n % 2 ^ 32 % 2 ^ 32 ≡ n % 2 ^ 32
 low_half n = omega arith
 
-module _ (known : Known) (branches : BranchKeeps) (singles : SingleContains) (least : LeastHolds) (rooms : RoomsHold)
-    (e : Labels) (a : View) (s : State) (h : HoldsIn e a s) where
+module _ (e : Labels) (a : View) (s : State) (h : HoldsIn e a s) where
   -- ---- numbers
 
   -- the source is a number, or the immediate that is compared
@@ -157,18 +158,18 @@ module _ (known : Known) (branches : BranchKeeps) (singles : SingleContains) (le
     where
       by_test : (b : Bool) → Narrows (if b then Some (x, y) else num_branch wide compare t x y) m n
       by_test true = ((x, y), refl, hx, hy)
-      by_test false = branches wide compare t x y m n hx hy k
+      by_test false = branch_keeps wide compare t x y m n hx hy k
 
   sources : (b : View) (src : Source) (n : ℕ) (y : Num) → HoldsIn e b s → Linked src n → InNum y n → HoldsIn e (with_source b src y) s
   sources b (source.Imm i) n y k l hy = k
-  sources b (source.Reg r) n y k l hy = known.refinement e b s r (Number y) k (subst (Holds e b.rooms (Number y)) (sym l) hy)
+  sources b (source.Reg r) n y k l hy = refinement_holds e b s r (Number y) k (subst (Holds e b.rooms (Number y)) (sym l) hy)
 
   numbers_way : (wide : Bool) (compare : Compare) (t : Bool) (dst : ℕ) (src : Source) (x y : Num) (m n : ℕ) → reg s dst ≡ value.Number m → Linked src n →
       InNum x m → InNum y n → compares wide compare m n ≡ t → InWay e (number_way a wide compare t dst src x y) s
   numbers_way wide compare t dst src x y m n is l hx hy k =
       let r = narrows wide compare (is_itself dst src) t x y m n hx hy k in
       subst (λ o. InWay e (with_operands a dst src o) s) (sym r.1)
-      (sources (with_register a dst (Number r.0.0)) src n r.0.1 (known.refinement e a s dst (Number r.0.0) h (subst (Holds e a.rooms (Number r.0.0)) (sym is) r.2)) l r.3)
+      (sources (with_register a dst (Number r.0.0)) src n r.0.1 (refinement_holds e a s dst (Number r.0.0) h (subst (Holds e a.rooms (Number r.0.0)) (sym is) r.2)) l r.3)
 
   numbers_split : (wide : Bool) (compare : Compare) (t : Bool) (dst : ℕ) (src : Source) (x y : Num) (m n : ℕ) → reg s dst ≡ value.Number m → Linked src n →
       InNum x m → InNum y n → compares wide compare m n ≡ t →
@@ -210,11 +211,11 @@ module _ (known : Known) (branches : BranchKeeps) (singles : SingleContains) (le
         (reg s dst ≡ value.Number 0) ⊎ Found e map (reg s dst) → source_of s src ≡ value.Number k → Splits e s w test
     lookup_splits map k None w e1 g found from = absurd (refused-okay _ w g)
     lookup_splits map k (Some t) w e1 g (inl is) from =
-        null_splits t _ _ w k e1 is from (okay-same _ w g) (known.refinement e a s dst (Number (num_single 0)) h (subst (Holds e a.rooms (Number (num_single 0))) (sym is) (singles 0 (omega arith))))
+        null_splits t _ _ w k e1 is from (okay-same _ w g) (refinement_holds e a s dst (Number (num_single 0)) h (subst (Holds e a.rooms (Number (num_single 0))) (sym is) (single_keeps 0 (omega arith))))
     lookup_splits map k (Some t) w e1 g (inr found) from =
         set_splits t _ _ w found.0 found.1 k e1 found.2 from (okay-same _ w g)
-        (known.refinement e a s dst (Pointer (place.Entry map) (num_single 0)) h (subst (Holds e a.rooms (Pointer (place.Entry map) (num_single 0))) (sym found.2)
-        (found.3, subst (InNum (num_single 0)) (sym found.4) (singles 0 (omega arith)))))
+        (refinement_holds e a s dst (Pointer (place.Entry map) (num_single 0)) h (subst (Holds e a.rooms (Pointer (place.Entry map) (num_single 0))) (sym found.2)
+        (found.3, subst (InNum (num_single 0)) (sym found.4) (single_keeps 0 (omega arith)))))
 
     pointer_splits : (q : Region) (n k : ℕ) (o : Option Bool) (w : Split) → null_test compare (is_zero src) ≡ o → pointer_ways a o ≡ Ok w →
         reg s dst ≡ value.Pointer q n → source_of s src ≡ value.Number k → Splits e s w test
@@ -228,7 +229,7 @@ module _ (known : Known) (branches : BranchKeeps) (singles : SingleContains) (le
     reach b None more k hl fits = k
     reach b (Some l) more k hl fits =
         cond_both (nat_le l.distance o.range.low) (with_room b l.label (l.distance + more)) b (λ c. HoldsIn e c s)
-        (λ near. rooms e b s l.label (l.distance + more)
+        (λ near. rooms_hold e b s l.label (l.distance + more)
         (let behind = leb-true l.distance o.range.low near in omega (arith, behind, ho.within.above, fits, short, hl.word, hl.far)) k)
         (λ far. k)
 
@@ -237,7 +238,7 @@ module _ (known : Known) (branches : BranchKeeps) (singles : SingleContains) (le
         let below : o.range.low + more ≤ length e.setting.frame = omega (arith, ho.within.above, fits) in
         let limit : nat_le (o.range.low + more) 2400 ≡ true = le-leb _ _ (omega (arith, below, short)) in
         subst (λ (b : Bool). InWay e (if b then Some (with_reach (with_least a (o.range.low + more)) o l more) else None) s) (sym limit)
-        (reach (with_least a (o.range.low + more)) l more (least e a s (o.range.low + more) below h) hl fits)
+        (reach (with_least a (o.range.low + more)) l more (least_holds e a s (o.range.low + more) below h) hl fits)
 
     taught_way : (l : Option Label) (m : Lesson) → LabelHolds e a.rooms l x → Says m x (length e.setting.frame) → InWay e (taught a o l m) s
     taught_way l Nothing hl k = h
@@ -252,8 +253,8 @@ module _ (known : Known) (branches : BranchKeeps) (singles : SingleContains) (le
   -- ---- all of them
 
   source_holds : (src : Source) → IsSource src → Holds e a.rooms (compared_value true a src) (source_of s src)
-  source_holds (source.Imm i) k = singles (word_of i) (word_fits i k)
-  source_holds (source.Reg r) k = known.registers e a s r h
+  source_holds (source.Imm i) k = single_keeps (word_of i) (word_fits i k)
+  source_holds (source.Reg r) k = registers_hold e a s r h
 
   linked : (src : Source) (n : ℕ) → source_of s src ≡ value.Number n → Linked src n
   linked (source.Imm i) n k = tt
@@ -326,15 +327,15 @@ module _ (known : Known) (branches : BranchKeeps) (singles : SingleContains) (le
 
   narrow_splits : (compare : Compare) (dst : ℕ) (src : Source) (v : AbsVal) (w : Split) → Holds e a.rooms v (reg s dst) →
       narrow_ways a compare dst src v (compared_value false a src) ≡ Ok w → Splits e s w (narrow_test compare (reg s dst) (source_of s src))
-  narrow_splits compare dst (source.Reg r) v w hv g = narrow_registers compare dst r v (register a r) w hv (known.registers e a s r h) g
+  narrow_splits compare dst (source.Reg r) v w hv g = narrow_registers compare dst r v (register a r) w hv (registers_hold e a s r h) g
   narrow_splits compare dst (source.Imm i) (Number x) w hv g =
       let m = number_held e a.rooms x (reg s dst) hv in
       let n = word_of i % 2 ^ 32 in
-      narrow_numbers compare dst (source.Imm i) x (num_single n) m.0 n (word_of i) w m.1 refl tt (low_half (word_of i)) m.2 (singles n (omega arith)) (okay-same _ w g)
+      narrow_numbers compare dst (source.Imm i) x (num_single n) m.0 n (word_of i) w m.1 refl tt (low_half (word_of i)) m.2 (single_keeps n (omega arith)) (okay-same _ w g)
   narrow_splits compare dst (source.Imm i) v w hv g = absurd (refused-okay _ w g)
 
   pub split_holds : (short : length e.setting.frame ≤ 2400) (wide : Bool) (compare : Compare) (dst : ℕ) (src : Source) (w : Split) → IsSource src → split a wide compare dst src ≡ Ok w →
       Splits e s w (taken compare wide (length e.setting.frame) (is_zero src) (reg s dst) (source_of s src))
   split_holds short true compare dst src w k g =
-      wide_splits short compare dst src (register a dst) (compared_value true a src) w (known.registers e a s dst h) (source_holds src k) g
-  split_holds short false compare dst src w k g = narrow_splits compare dst src (register a dst) w (known.registers e a s dst h) g
+      wide_splits short compare dst src (register a dst) (compared_value true a src) w (registers_hold e a s dst h) (source_holds src k) g
+  split_holds short false compare dst src w k g = narrow_splits compare dst src (register a dst) w (registers_hold e a s dst h) g

@@ -8,25 +8,18 @@ use Rattle.bpf_absval.specs.declared.value.AbsVal.{AbsVal}
 use Rattle.bpf_absval.specs.declared.value.AbsVal.TheVariants as abs
 use Rattle.bpf_absval.specs.Meaning.{Labels, Holds}
 use Rattle.bpf_absstate.specs.Contains.{HoldsIn}
-use Rattle.bpf_absstate.specs.Laws.{RegistersHold, GoingHolds, ChangesHold, RefinementHolds}
 use Rattle.bpf_absstate.specs.View.{View, with_register}
+use Rattle.bpf_absstate.proofs.Followed.{going_holds, changes_hold}
 use Rattle.bpf_rules.specs.Calls.{answered}
 
--- what is known of reading and changing registers
-pub record Known : Type 0 where
-  pub registers : RegistersHold
-  pub going : GoingHolds
-  pub change : ChangesHold
-  pub refinement : RefinementHolds
-
-module _ (known : Known) (e : Labels) where
+module _ (e : Labels) where
   -- a register other than R10 changes, and control goes on
   pub puts : (a : View) (s : State) (pc r : ℕ) (v : AbsVal) (x : Value) → HoldsIn e a s → r ≢ 10 → Holds e a.rooms v x →
       HoldsIn e (record a { pc = pc; registers = slice_set a.registers r v }) (record s { pc = pc; regs = slice_set s.regs r x })
-  puts a s pc r v x h other k = known.going e (with_register a r v) (record s { regs = slice_set s.regs r x }) pc (known.change e a s r v x h other k)
+  puts a s pc r v x h other k = going_holds e (with_register a r v) (record s { regs = slice_set s.regs r x }) pc (changes_hold e a s r v x h other k)
 
   unset : (a : View) (s : State) (r : ℕ) → HoldsIn e a s → r ≢ 10 → HoldsIn e (with_register a r abs.Unset) (record s { regs = slice_set s.regs r value.Unset })
-  unset a s r h other = known.change e a s r abs.Unset value.Unset h other tt
+  unset a s r h other = changes_hold e a s r abs.Unset value.Unset h other tt
 
   -- notes don't matter to the abstract state
   noted : (a : View) (s : State) (notes : List ℕ) → HoldsIn e a s → HoldsIn e a (record s { notes = notes })
@@ -47,6 +40,6 @@ module _ (known : Known) (e : Labels) where
   answers a s notes v x h k =
       let told : State = record s { notes = notes } in
       subst (λ n. HoldsIn e (answered a v) (record (answered_state told x) { pc = n + 1 })) (sym h.pc)
-      (known.going e _ _ (a.pc + 1) (unset _ _ 5 (unset _ _ 4 (unset _ _ 3 (unset _ _ 2 (unset _ _ 1
-      (known.change e a told 0 v x (noted a s notes h) (omega arith) k)
+      (going_holds e _ _ (a.pc + 1) (unset _ _ 5 (unset _ _ 4 (unset _ _ 3 (unset _ _ 2 (unset _ _ 1
+      (changes_hold e a told 0 v x (noted a s notes h) (omega arith) k)
       (omega arith)) (omega arith)) (omega arith)) (omega arith)) (omega arith)))

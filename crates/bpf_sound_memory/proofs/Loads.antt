@@ -21,10 +21,10 @@ use Rattle.bpf_absval.specs.declared.value.AbsVal.TheVariants as abs
 use Rattle.bpf_absval.specs.declared.value.Label.{Label}
 use Rattle.bpf_absval.specs.Meaning.{Labels, Holds, LabelHolds, RegionHolds, IsEntry}
 use Rattle.bpf_absstate.specs.View.{View, frame_of, stack_of}
+use Rattle.bpf_absstate.proofs.Kept.{depths_agree, stacks_agree}
 use Rattle.bpf_absstate.specs.Contains.{HoldsIn}
 use Rattle.bpf_rules.specs.Memory.{load, loaded, loaded_stack, loaded_from, offset_of, frame_fault, context_fault, entry_fault, stack_fault}
 use Rattle.bpf_sound_memory.specs.Laws.{IsInput, Puts, LoadHolds}
-use Rattle.bpf_sound_memory.proofs.States.{StateLaws}
 use Rattle.bpf_sound_memory.proofs.StackReads.{stack_gives}
 use Rattle.bpf_rules.proofs.Outcomes.{unless_ok, okay-same}
 use Rattle.bpf_sound_memory.proofs.Outcomes.{goes_with}
@@ -77,41 +77,41 @@ from_entry e a s n signed dst m map index at u x size same entry h t =
     let small : answer < 2 ^ (8 * n) = subst (λ k. answer < 2 ^ (8 * k)) (sym inside.width) word in
     number_put e a s signed n dst answer u size small (okay-same (loaded signed n) u parts.1))
 
-from_stack : StateLaws → (e : Labels) (a : View) (s : State) (n : ℕ) (signed : Bool) (dst k j : ℕ) (at : Num) (u : AbsVal) (x : ℕ) →
+from_stack : (e : Labels) (a : View) (s : State) (n : ℕ) (signed : Bool) (dst k j : ℕ) (at : Num) (u : AbsVal) (x : ℕ) →
     HoldsIn e a s → IsSize n → k ≡ j → InNum at x → loaded_from e.setting.shapes a (place.Stack k) at n signed ≡ Ok u → Fine e a s n signed dst u (region.Stack j) x
-from_stack w e a s n signed dst k j at u x holds size same h t =
+from_stack e a s n signed dst k j at u x holds size same h t =
     let p = e.setting in
     let known = subst (λ i. loaded_from p.shapes a (place.Stack i) at n signed ≡ Ok u) same t in
     let parts = unless_ok (stack_fault a j at n) (loaded_stack (stack_of a j) at.range.low n signed) u known in
     let inside = stack_fits a j at n x h parts.0 in
     let loads = subst (λ i. loaded_stack (stack_of a j) i n signed ≡ Ok u) inside.offset parts.1 in
-    let gives = stack_gives e a.rooms (frame_of a j) (machine.frame_of s j) x n signed u (w.stacks e a s j holds inside.lives) size inside.room loads in
+    let gives = stack_gives e a.rooms (frame_of a j) (machine.frame_of s j) x n signed u (stacks_agree e a s j holds inside.lives) size inside.room loads in
     goes_with p.shapes (machine.place p (length s.stack) (region.Stack j) x n) (machine_place.Stack j x) (machine.load_at p s n signed dst) (Puts e a s dst u)
-    (stack_placed j x n (length s.stack) (omega (arith, inside.lives, (w.depth e a s holds).stacks)) inside.room)
+    (stack_placed j x n (length s.stack) (omega (arith, inside.lives, (depths_agree e a s holds).stacks)) inside.room)
     (goes_with p.shapes (machine.from_stack (machine.frame_of s j) x n signed) gives.0 (λ v. Goes (put s dst v)) (Puts e a s dst u) gives.1 (gives.0, refl, gives.2))
 
 -- ---- all of them
 
-from_region : StateLaws → (e : Labels) (a : View) (s : State) (n : ℕ) (signed : Bool) (dst : ℕ) (at : Num) (u : AbsVal) (r : AbsRegion) (q : Region) (x : ℕ) →
+from_region : (e : Labels) (a : View) (s : State) (n : ℕ) (signed : Bool) (dst : ℕ) (at : Num) (u : AbsVal) (r : AbsRegion) (q : Region) (x : ℕ) →
     IsInput e.setting → HoldsIn e a s → IsSize n → RegionHolds e r q → InNum at x → loaded_from e.setting.shapes a r at n signed ≡ Ok u → Fine e a s n signed dst u q x
-from_region w e a s n signed dst at u place.Context region.Context x input holds size same h t = from_context e a s n signed dst at u x input size h t
-from_region w e a s n signed dst at u (place.Stack k) (region.Stack j) x input holds size same h t = from_stack w e a s n signed dst k j at u x holds size same h t
-from_region w e a s n signed dst at u (place.Entry m) (region.Entry map index) x input holds size same h t = from_entry e a s n signed dst m map index at u x size same.0 same.1 h t
-from_region w e a s n signed dst at u r q x input holds size same h t = absurd same
+from_region e a s n signed dst at u place.Context region.Context x input holds size same h t = from_context e a s n signed dst at u x input size h t
+from_region e a s n signed dst at u (place.Stack k) (region.Stack j) x input holds size same h t = from_stack e a s n signed dst k j at u x holds size same h t
+from_region e a s n signed dst at u (place.Entry m) (region.Entry map index) x input holds size same h t = from_entry e a s n signed dst m map index at u x size same.0 same.1 h t
+from_region e a s n signed dst at u r q x input holds size same h t = absurd same
 
 abbrev Fine_load : Labels → View → State → ℕ → Bool → ℕ → AbsVal → Value → ℤ → Type 0
 Fine_load e a s n signed dst u x by = IsFine e.setting.shapes (machine.load e.setting s n signed dst x by) (Puts e a s dst u)
 
-through : StateLaws → (e : Labels) (a : View) (s : State) (n : ℕ) (signed : Bool) (dst : ℕ) (u : AbsVal) (by : ℤ) (v : AbsVal) (x : Value) →
+through : (e : Labels) (a : View) (s : State) (n : ℕ) (signed : Bool) (dst : ℕ) (u : AbsVal) (by : ℤ) (v : AbsVal) (x : Value) →
     IsInput e.setting → HoldsIn e a s → IsSize n → word_of by < 2 ^ 64 → Holds e a.rooms v x → load e.setting.shapes a n signed v by ≡ Ok u →
     Fine_load e a s n signed dst u x by
-through w e a s n signed dst u by (abs.Frame offset l) (value.Pointer region.Frame x) input holds size fits h t =
+through e a s n signed dst u by (abs.Frame offset l) (value.Pointer region.Frame x) input holds size fits h t =
     from_frame e a s n signed dst offset l u x by input holds size fits h.0 h.1 t
-through w e a s n signed dst u by (abs.Frame offset l) x input holds size fits h t = absurd h
-through w e a s n signed dst u by (abs.Pointer r offset) (value.Pointer q x) input holds size fits h t =
-    from_region w e a s n signed dst (offset_of offset by) u r q (word_add x (word_of by)) input holds size h.0 (offset_keeps offset x by fits h.1) t
-through w e a s n signed dst u by (abs.Pointer r offset) x input holds size fits h t = absurd h
-through w e a s n signed dst u by v x input holds size fits h t = absurd (cc)
+through e a s n signed dst u by (abs.Frame offset l) x input holds size fits h t = absurd h
+through e a s n signed dst u by (abs.Pointer r offset) (value.Pointer q x) input holds size fits h t =
+    from_region e a s n signed dst (offset_of offset by) u r q (word_add x (word_of by)) input holds size h.0 (offset_keeps offset x by fits h.1) t
+through e a s n signed dst u by (abs.Pointer r offset) x input holds size fits h t = absurd h
+through e a s n signed dst u by v x input holds size fits h t = absurd (cc)
 
-pub load_holds : StateLaws → LoadHolds
-load_holds w e a s size signed dst v u x by input holds fits h t = through w e a s (size_bytes size) signed dst u by v x input holds (size_is size) fits h t
+pub load_holds : LoadHolds
+load_holds e a s size signed dst v u x by input holds fits h t = through e a s (size_bytes size) signed dst u by v x input holds (size_is size) fits h t

@@ -18,13 +18,14 @@ use Rattle.bpf_absval.specs.declared.room.Room.{Room}
 use Rattle.bpf_absval.specs.Meaning.{Labels, Holds, IsStackFrame, is_number, SlotHolds}
 use Rattle.bpf_absval.specs.Inclusion.{bytes_set}
 use Rattle.bpf_absstate.specs.View.{View, stack_of, with_slot}
+use Rattle.bpf_absstate.proofs.Followed.{slot_changes_hold, two_slots_hold}
+use Rattle.bpf_absstate.proofs.Kept.{stacks_agree}
 use Rattle.bpf_absstate.specs.Contains.{HoldsIn}
 use Rattle.bpf_rules.specs.Operands.{is_unset as rules_unset}
 use Rattle.bpf_rules.specs.Memory.{touched, slot_at, with_bytes, bytes_stored}
 use Rattle.bpf_sound_memory.proofs.Bytes.{byte_at, number_within}
 use Rattle.bpf_sound_memory.proofs.StackFrames.{byte_got, within_or, number_outside, number_keeps, spill_keeps}
 use Rattle.bpf_sound_memory.proofs.Held.{known_set, number_leaves, spill_leaves, number_is_held, spill_is_held}
-use Rattle.bpf_sound_memory.proofs.States.{StateLaws}
 use Rattle.bpf_sound_memory.proofs.StackReads.{is_set}
 use Rattle.bpf_sound_memory.proofs.Touched.{either_has, first_within, second_within, one_slot, two_slots}
 
@@ -40,28 +41,28 @@ number_fits e rooms (abs.Pointer r offset) x t h = absurd h
 number_fits e rooms abs.FrameEnd x t h = absurd h
 number_fits e rooms (abs.MapReference m) x t h = absurd h
 
-whole_number : StateLaws → (e : Labels) (a : View) (s : State) (k at : ℕ) (v : AbsVal) (x : ℕ) → HoldsIn e a s → k < length a.frames → at % 8 ≡ 0 → at + 8 ≤ 512 →
+whole_number : (e : Labels) (a : View) (s : State) (k at : ℕ) (v : AbsVal) (x : ℕ) → HoldsIn e a s → k < length a.frames → at % 8 ≡ 0 → at + 8 ≤ 512 →
     rules_unset v ≡ false → Holds e a.rooms v (value.Number x) → HoldsIn e (with_slot a k (at / 8) (slot.Stored v)) (with_frame s k (number_stored (machine.frame_of s k) at 8 x))
-whole_number w e a s k at v x h low even room set is =
+whole_number e a s k at v x h low even room set is =
     let f = machine.frame_of s k in
-    let well = (w.stacks e a s k h low).frame in
-    w.slot e a s k (at / 8) (slot.Stored v) (number_stored f at 8 x) h low (omega arith) (number_keeps f at 8 x well (omega arith) (omega arith) room)
+    let well = (stacks_agree e a s k h low).frame in
+    slot_changes_hold e a s k (at / 8) (slot.Stored v) (number_stored f at 8 x) h low (omega arith) (number_keeps f at 8 x well (omega arith) (omega arith) room)
     (λ j small other. number_leaves f at 8 x j (omega arith) (omega arith) (other, λ same. other (omega (arith, same))))
     (subst (Holds e a.rooms v) (sym (number_is_held f at x well even room (number_fits e a.rooms v x set is))) is)
 
-whole_spill : StateLaws → (e : Labels) (a : View) (s : State) (k at : ℕ) (v : AbsVal) (x : Value) → HoldsIn e a s → k < length a.frames → at % 8 ≡ 0 → at + 8 ≤ 512 →
+whole_spill : (e : Labels) (a : View) (s : State) (k at : ℕ) (v : AbsVal) (x : Value) → HoldsIn e a s → k < length a.frames → at % 8 ≡ 0 → at + 8 ≤ 512 →
     is_number x ≡ false → is_unset x ≡ false → Holds e a.rooms v x → HoldsIn e (with_slot a k (at / 8) (slot.Stored v)) (with_frame s k (spilled (machine.frame_of s k) at x))
-whole_spill w e a s k at v x h low even room other set is =
+whole_spill e a s k at v x h low even room other set is =
     let f = machine.frame_of s k in
-    let well = (w.stacks e a s k h low).frame in
-    w.slot e a s k (at / 8) (slot.Stored v) (spilled f at x) h low (omega arith) (spill_keeps f at x well even room other)
+    let well = (stacks_agree e a s k h low).frame in
+    slot_changes_hold e a s k (at / 8) (slot.Stored v) (spilled f at x) h low (omega arith) (spill_keeps f at x well even room other)
     (λ j small apart. spill_leaves f at x j even apart)
     (subst (Holds e a.rooms v) (sym (spill_is_held f at x well room set)) is)
 
-pub whole_stored : StateLaws → (e : Labels) (a : View) (s : State) (k at : ℕ) (v : AbsVal) (x : Value) → HoldsIn e a s → k < length a.frames → at % 8 ≡ 0 → at + 8 ≤ 512 →
+pub whole_stored : (e : Labels) (a : View) (s : State) (k at : ℕ) (v : AbsVal) (x : Value) → HoldsIn e a s → k < length a.frames → at % 8 ≡ 0 → at + 8 ≤ 512 →
     rules_unset v ≡ false → Holds e a.rooms v x → HoldsIn e (with_slot a k (at / 8) (slot.Stored v)) (with_frame s k (stored (machine.frame_of s k) at 8 x))
-whole_stored w e a s k at v (value.Number x) h low even room set is = whole_number w e a s k at v x h low even room set is
-whole_stored w e a s k at v x h low even room set is = whole_spill w e a s k at v x h low even room refl (is_set e a.rooms v x set is) is
+whole_stored e a s k at v (value.Number x) h low even room set is = whole_number e a s k at v x h low even room set is
+whole_stored e a s k at v x h low even room set is = whole_spill e a s k at v x h low even room refl (is_set e a.rooms v x set is) is
 
 -- ---- bytes are set
 
@@ -85,23 +86,23 @@ bytes_after e rooms known mask f at n x i well low room h written = λ j few one
         (set.0, byte_got (with_number f.bytes at n x) (8 * i + j) set.0 set.1)
     after j (inr p) was = (was.0, byte_got (with_number f.bytes at n x) (8 * i + j) was.0 (number_outside f.bytes at n x (8 * i + j) p ∙ was.1))
 
-first_after : StateLaws → (e : Labels) (a : View) (s : State) (k at n x : ℕ) → HoldsIn e a s → k < length a.frames → at + n ≤ 512 → 1 ≤ n →
+first_after : (e : Labels) (a : View) (s : State) (k at n x : ℕ) → HoldsIn e a s → k < length a.frames → at + n ≤ 512 → 1 ≤ n →
     SlotHolds e a.rooms (with_bytes (slot_at (stack_of a k) (at / 8)) (touched at n % 256)) (number_stored (machine.frame_of s k) at n x) (at / 8)
-first_after w e a s k at n x h low room some =
-    let stack = w.stacks e a s k h low in
+first_after e a s k at n x h low room some =
+    let stack = stacks_agree e a s k h low in
     bytes_after e a.rooms (slot_at (stack_of a k) (at / 8)) (touched at n % 256) (machine.frame_of s k) at n x (at / 8) stack.frame (omega arith) room (stack.slots (at / 8) (omega arith))
     (λ j few one. let w = first_within at n j few one in (omega (arith, w), omega (arith, w)))
 
-second_after : StateLaws → (e : Labels) (a : View) (s : State) (k at n x : ℕ) → HoldsIn e a s → k < length a.frames → at + n ≤ 512 → 8 < at % 8 + n →
+second_after : (e : Labels) (a : View) (s : State) (k at n x : ℕ) → HoldsIn e a s → k < length a.frames → at + n ≤ 512 → 8 < at % 8 + n →
     SlotHolds e a.rooms (with_bytes (slot_at (stack_of a k) (at / 8 + 1)) (touched at n / 256)) (number_stored (machine.frame_of s k) at n x) (at / 8 + 1)
-second_after w e a s k at n x h low room over =
-    let stack = w.stacks e a s k h low in
+second_after e a s k at n x h low room over =
+    let stack = stacks_agree e a s k h low in
     bytes_after e a.rooms (slot_at (stack_of a k) (at / 8 + 1)) (touched at n / 256) (machine.frame_of s k) at n x (at / 8 + 1) stack.frame (omega arith) room (stack.slots (at / 8 + 1) (omega arith))
     (λ j few one. let w = second_within at n j one in (omega (arith, w), omega (arith, w)))
 
-pub bytes_stored_hold : StateLaws → (e : Labels) (a : View) (s : State) (k at n x : ℕ) → HoldsIn e a s → k < length a.frames → 1 ≤ n → n ≤ 8 → at + n ≤ 512 →
+pub bytes_stored_hold : (e : Labels) (a : View) (s : State) (k at n x : ℕ) → HoldsIn e a s → k < length a.frames → 1 ≤ n → n ≤ 8 → at + n ≤ 512 →
     HoldsIn e (bytes_stored a k at n) (with_frame s k (number_stored (machine.frame_of s k) at n x))
-bytes_stored_hold w e a s k at n x h low some size room = by_test (touched at n / 256 == 0) refl
+bytes_stored_hold e a s k at n x h low some size room = by_test (touched at n / 256 == 0) refl
   where
     f : StackFrame
     f = machine.frame_of s k
@@ -113,18 +114,18 @@ bytes_stored_hold w e a s k at n x h low some size room = by_test (touched at n 
     second = with_bytes (slot_at (stack_of a k) (at / 8 + 1)) (touched at n / 256)
 
     well : IsStackFrame f
-    well = (w.stacks e a s k h low).frame
+    well = (stacks_agree e a s k h low).frame
 
     by_test : (b : Bool) → (touched at n / 256 == 0) ≡ b →
         HoldsIn e (cond b (with_slot a k (at / 8) first) (with_slot (with_slot a k (at / 8) first) k (at / 8 + 1) second)) (with_frame s k (number_stored f at n x))
     by_test true t =
         let within : at % 8 + n ≤ 8 = one_slot at n t in
-        w.slot e a s k (at / 8) first (number_stored f at n x) h low (omega arith) (number_keeps f at n x well some size room)
+        slot_changes_hold e a s k (at / 8) first (number_stored f at n x) h low (omega arith) (number_keeps f at n x well some size room)
         (λ j small other. number_leaves f at n x j some size (other, λ same. other (omega (arith, same, within))))
-        (first_after w e a s k at n x h low room some)
+        (first_after e a s k at n x h low room some)
     by_test false t =
         let over : 8 < at % 8 + n = two_slots at n t in
-        w.slots e a s k (at / 8) (at / 8 + 1) first second (number_stored f at n x) h low (omega arith) (omega arith) (λ same. omega (arith, same)) (number_keeps f at n x well some size room)
+        two_slots_hold e a s k (at / 8) (at / 8 + 1) first second (number_stored f at n x) h low (omega arith) (omega arith) (λ same. omega (arith, same)) (number_keeps f at n x well some size room)
         (λ j small other another. number_leaves f at n x j some size (other, λ same. another (omega (arith, same, over))))
-        (first_after w e a s k at n x h low room some)
-        (second_after w e a s k at n x h low room over)
+        (first_after e a s k at n x h low room some)
+        (second_after e a s k at n x h low room over)

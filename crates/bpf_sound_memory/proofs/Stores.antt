@@ -25,6 +25,7 @@ use Rattle.bpf_absval.specs.declared.value.AbsVal.TheVariants as abs
 use Rattle.bpf_absval.specs.declared.room.Room.{Room}
 use Rattle.bpf_absval.specs.Meaning.{Labels, Holds, RegionHolds, IsEntry}
 use Rattle.bpf_absstate.specs.View.{View, with_slot}
+use Rattle.bpf_absstate.proofs.Kept.{depths_agree}
 use Rattle.bpf_absstate.specs.Contains.{HoldsIn}
 use Rattle.bpf_rules.specs.declared.fault.Fault.{Fault}
 use Rattle.bpf_rules.specs.declared.fault.Fault.TheVariants as fault
@@ -34,7 +35,7 @@ use Rattle.bpf_sound_memory.specs.Laws.{StoreHolds}
 use Rattle.bpf_rules.proofs.Outcomes.{unless_ok, okay-same}
 use Rattle.bpf_sound_memory.proofs.Outcomes.{goes_with}
 use Rattle.bpf_sound_memory.proofs.Offsets.{IsSize, size_is, offset_keeps, IsInStack, stack_fits, aligned_fits, entry_fits, stack_placed}
-use Rattle.bpf_sound_memory.proofs.States.{StateLaws, goes_on}
+use Rattle.bpf_sound_memory.proofs.States.{goes_on}
 use Rattle.bpf_sound_memory.proofs.StackReads.{is_set}
 use Rattle.bpf_sound_memory.proofs.StackStores.{whole_stored, bytes_stored_hold}
 
@@ -80,21 +81,21 @@ takes_whole at v even = by_value v
 abbrev in_stack : Labels → State → ℕ → ℕ → ℕ → Type 0
 in_stack e s k x n = machine.place e.setting (length s.stack) (region.Stack k) x n ≡ Ok (machine_place.Stack k x)
 
-placed : (w : StateLaws) (e : Labels) (a : View) (s : State) (k n : ℕ) (at : Num) (x : ℕ) → HoldsIn e a s → IsInStack a k n at x → in_stack e s k x n
-placed w e a s k n at x h inside =
-    stack_placed k x n (length s.stack) (omega (arith, inside.lives, (w.depth e a s h).stacks)) inside.room
+placed : (e : Labels) (a : View) (s : State) (k n : ℕ) (at : Num) (x : ℕ) → HoldsIn e a s → IsInStack a k n at x → in_stack e s k x n
+placed e a s k n at x h inside =
+    stack_placed k x n (length s.stack) (omega (arith, inside.lives, (depths_agree e a s h).stacks)) inside.room
 
 -- the state after a store to the stack
-stack_goes : (w : StateLaws) (e : Labels) (a b : View) (s : State) (k n : ℕ) (v : Value) (x : ℕ) → in_stack e s k x n → is_unset v ≡ false → storable_in_stack x n v ≡ Ok v →
+stack_goes : (e : Labels) (a b : View) (s : State) (k n : ℕ) (v : Value) (x : ℕ) → in_stack e s k x n → is_unset v ≡ false → storable_in_stack x n v ≡ Ok v →
     machine.strays k v ≡ false → HoldsIn e b (with_frame s k (machine.stored (machine.frame_of s k) x n v)) → Fine e s n v (region.Stack k) x b
-stack_goes w e a b s k n v x there set may stays h =
+stack_goes e a b s k n v x there set may stays h =
     let t = with_frame s k (machine.stored (machine.frame_of s k) x n v) in
     goes_to e s n v (region.Stack k) x b (machine_place.Stack k x) set may there
     (subst (λ q. IsFine e.setting.shapes (cond q (Faults 37) (Goes (machine.next_pc t))) (HoldsIn e (next_pc b))) (sym stays) (goes_on e b t h))
 
-number_stored_holds : (w : StateLaws) (e : Labels) (a : View) (s : State) (k n x y : ℕ) (v : Num) → HoldsIn e a s → k < length a.frames → IsSize n → x + n ≤ 512 → InNum v y →
+number_stored_holds : (e : Labels) (a : View) (s : State) (k n x y : ℕ) (v : Num) → HoldsIn e a s → k < length a.frames → IsSize n → x + n ≤ 512 → InNum v y →
     HoldsIn e (stored a k x n (abs.Number v)) (with_frame s k (machine.stored (machine.frame_of s k) x n (value.Number y)))
-number_stored_holds w e a s k n x y v h low size room is = by_test (is_whole x n) refl
+number_stored_holds e a s k n x y v h low size room is = by_test (is_whole x n) refl
   where
     by_test : (b : Bool) → is_whole x n ≡ b →
         HoldsIn e (cond b (with_slot a k (x / 8) (slot.Stored (abs.Number v))) (bytes_stored a k x n)) (with_frame s k (machine.stored (machine.frame_of s k) x n (value.Number y)))
@@ -102,19 +103,19 @@ number_stored_holds w e a s k n x y v h low size room is = by_test (is_whole x n
         let parts = and_parts (n == 8) (x % 8 == 0) t in
         let eight : n ≡ 8 = eqb-true n 8 parts.0 in
         subst (λ m. HoldsIn e (with_slot a k (x / 8) (slot.Stored (abs.Number v))) (with_frame s k (machine.stored (machine.frame_of s k) x m (value.Number y)))) (sym eight)
-        (whole_stored w e a s k x (abs.Number v) (value.Number y) h low (eqb-true (x % 8) 0 parts.1) (subst (λ m. x + m ≤ 512) eight room) refl is)
-    by_test false t = bytes_stored_hold w e a s k x n y h low size.some size.few room
+        (whole_stored e a s k x (abs.Number v) (value.Number y) h low (eqb-true (x % 8) 0 parts.1) (subst (λ m. x + m ≤ 512) eight room) refl is)
+    by_test false t = bytes_stored_hold e a s k x n y h low size.some size.few room
 
-store_number : (w : StateLaws) (e : Labels) (a b : View) (s : State) (k n : ℕ) (at v : Num) (x y : ℕ) → HoldsIn e a s → IsSize n → InNum at x → InNum v y →
+store_number : (e : Labels) (a b : View) (s : State) (k n : ℕ) (at v : Num) (x y : ℕ) → HoldsIn e a s → IsSize n → InNum at x → InNum v y →
     stored_in_stack a k at n (abs.Number v) ≡ Ok b → Fine e s n (value.Number y) (region.Stack k) x b
-store_number w e a b s k n at v x y h size offset is t =
+store_number e a b s k n at v x y h size offset is t =
     let parts = unless_ok (stack_fault a k at n) (Ok (stored a k at.range.low n (abs.Number v))) b t in
     let inside = stack_fits a k at n x offset parts.0 in
     let left : stored a k x n (abs.Number v) ≡ b =
     ap (λ m. stored a k m n (abs.Number v)) (sym inside.offset) ∙ okay-same (stored a k at.range.low n (abs.Number v)) b parts.1 in
-    stack_goes w e a b s k n (value.Number y) x (placed w e a s k n at x h inside) refl refl refl
+    stack_goes e a b s k n (value.Number y) x (placed e a s k n at x h inside) refl refl refl
     (subst (λ c. HoldsIn e c (with_frame s k (machine.stored (machine.frame_of s k) x n (value.Number y)))) left
-    (number_stored_holds w e a s k n x y v h inside.lives size inside.room is))
+    (number_stored_holds e a s k n x y v h inside.lives size inside.room is))
 
 -- any other value, even a lookup result
 spilled_parts : (a b : View) (k n : ℕ) (at : Num) (v : AbsVal) → spilled a k at n v ≡ Ok b → (n ≡ 8) × (aligned_fault a k at 8 ≡ None) × (strays k v ≡ false) × (stored a k at.range.low 8 v ≡ b)
@@ -135,9 +136,9 @@ spilled_parts a b k n at v t =
     by_pointer true t = absurd (cc)
     by_pointer false t = (refl, okay-same (stored a k at.range.low 8 v) b t)
 
-store_whole : (w : StateLaws) (e : Labels) (a b : View) (s : State) (k n : ℕ) (at : Num) (v : AbsVal) (x : ℕ) (y : Value) → HoldsIn e a s → InNum at x → rules_unset v ≡ false → Holds e a.rooms v y →
+store_whole : (e : Labels) (a b : View) (s : State) (k n : ℕ) (at : Num) (v : AbsVal) (x : ℕ) (y : Value) → HoldsIn e a s → InNum at x → rules_unset v ≡ false → Holds e a.rooms v y →
     spilled a k at n v ≡ Ok b → Fine e s n y (region.Stack k) x b
-store_whole w e a b s k n at v x y h offset set is t =
+store_whole e a b s k n at v x y h offset set is t =
     let parts = spilled_parts a b k n at v t in
     let fits = aligned_fits a k at 8 x (size_is size.Double) offset parts.1 in
     let inside = fits.1 in
@@ -146,51 +147,51 @@ store_whole w e a b s k n at v x y h offset set is t =
     sym (ap (λ c. cond ((8 == 8) && c) (with_slot a k (x / 8) (slot.Stored v)) (bytes_stored a k x 8)) zero)
     ∙ ap (λ m. stored a k m 8 v) (sym inside.offset) ∙ parts.3 in
     subst (λ m. Fine e s m y (region.Stack k) x b) (sym parts.0)
-    (stack_goes w e a b s k 8 y x (placed w e a s k 8 at x h inside) (is_set e a.rooms v y set is) (takes_whole x y fits.0) (same_strays e a.rooms k v y set is parts.2)
-    (subst (λ c. HoldsIn e c (with_frame s k (machine.stored (machine.frame_of s k) x 8 y))) left (whole_stored w e a s k x v y h inside.lives fits.0 inside.room set is)))
+    (stack_goes e a b s k 8 y x (placed e a s k 8 at x h inside) (is_set e a.rooms v y set is) (takes_whole x y fits.0) (same_strays e a.rooms k v y set is parts.2)
+    (subst (λ c. HoldsIn e c (with_frame s k (machine.stored (machine.frame_of s k) x 8 y))) left (whole_stored e a s k x v y h inside.lives fits.0 inside.room set is)))
 
-to_stack : (w : StateLaws) (e : Labels) (a b : View) (s : State) (k n : ℕ) (at : Num) (x : ℕ) (v : AbsVal) (y : Value) → HoldsIn e a s → IsSize n → InNum at x → rules_unset v ≡ false → Holds e a.rooms v y →
+to_stack : (e : Labels) (a b : View) (s : State) (k n : ℕ) (at : Num) (x : ℕ) (v : AbsVal) (y : Value) → HoldsIn e a s → IsSize n → InNum at x → rules_unset v ≡ false → Holds e a.rooms v y →
     stored_in_stack a k at n v ≡ Ok b → Fine e s n y (region.Stack k) x b
-to_stack w e a b s k n at x (abs.Number v) (value.Number y) h size offset set is t = store_number w e a b s k n at v x y h size offset is t
-to_stack w e a b s k n at x (abs.Number v) y h size offset set is t = absurd is
-to_stack w e a b s k n at x (abs.Lookup m) y h size offset set is t = by_test (is_spill at n) t
+to_stack e a b s k n at x (abs.Number v) (value.Number y) h size offset set is t = store_number e a b s k n at v x y h size offset is t
+to_stack e a b s k n at x (abs.Number v) y h size offset set is t = absurd is
+to_stack e a b s k n at x (abs.Lookup m) y h size offset set is t = by_test (is_spill at n) t
   where
     by_test : (c : Bool) → cond c (spilled a k at n (abs.Lookup m)) (Err fault.NotTested) ≡ Ok b → Fine e s n y (region.Stack k) x b
-    by_test true t = store_whole w e a b s k n at (abs.Lookup m) x y h offset refl is t
+    by_test true t = store_whole e a b s k n at (abs.Lookup m) x y h offset refl is t
     by_test false t = absurd (cc)
-to_stack w e a b s k n at x v y h size offset set is t = store_whole w e a b s k n at v x y h offset set is t
+to_stack e a b s k n at x v y h size offset set is t = store_whole e a b s k n at v x y h offset set is t
 
 -- ---- maps
 
-to_entry : (w : StateLaws) (e : Labels) (a b : View) (s : State) (m map index n : ℕ) (at : Num) (x : ℕ) (v : AbsVal) (y : Value) → HoldsIn e a s → IsSize n → m ≡ map → IsEntry e.setting.shapes map index →
+to_entry : (e : Labels) (a b : View) (s : State) (m map index n : ℕ) (at : Num) (x : ℕ) (v : AbsVal) (y : Value) → HoldsIn e a s → IsSize n → m ≡ map → IsEntry e.setting.shapes map index →
     InNum at x → Holds e a.rooms v y → stored_in_map a (slice_get e.setting.shapes m) at n v ≡ Ok b → Fine e s n y (region.Entry map index) x b
-to_entry w e a b s m map index n at x (abs.Number v) (value.Number y) h size same entry offset is t =
+to_entry e a b s m map index n at x (abs.Number v) (value.Number y) h size same entry offset is t =
     let p = e.setting in
     let known = subst (λ j. stored_in_map a (slice_get p.shapes j) at n (abs.Number v) ≡ Ok b) same t in
     let parts = unless_ok (entry_fault (slice_get p.shapes map) at n) (Ok a) b known in
     let inside = entry_fits p.shapes map index at n x size entry offset parts.0 in
     goes_to e s n (value.Number y) (region.Entry map index) x b (machine_place.Word map inside.word) refl refl inside.place
     (λ answer fits. subst (λ c. HoldsIn e (next_pc c) (machine.next_pc s)) (okay-same a b parts.1) (goes_on e a s h))
-to_entry w e a b s m map index n at x (abs.Number v) y h size same entry offset is t = absurd is
-to_entry w e a b s m map index n at x v y h size same entry offset is t = absurd (cc)
+to_entry e a b s m map index n at x (abs.Number v) y h size same entry offset is t = absurd is
+to_entry e a b s m map index n at x v y h size same entry offset is t = absurd (cc)
 
 -- ---- all of them
 
-to_region : (w : StateLaws) (e : Labels) (a b : View) (s : State) (n : ℕ) (at : Num) (r : AbsRegion) (q : Region) (x : ℕ) (v : AbsVal) (y : Value) → HoldsIn e a s → IsSize n → RegionHolds e r q →
+to_region : (e : Labels) (a b : View) (s : State) (n : ℕ) (at : Num) (r : AbsRegion) (q : Region) (x : ℕ) (v : AbsVal) (y : Value) → HoldsIn e a s → IsSize n → RegionHolds e r q →
     InNum at x → rules_unset v ≡ false → Holds e a.rooms v y → stored_into e.setting.shapes a r at n v ≡ Ok b → Fine e s n y q x b
-to_region w e a b s n at (place.Stack k) (region.Stack j) x v y h size same offset set is t =
-    subst (λ i. Fine e s n y (region.Stack i) x b) same (to_stack w e a b s k n at x v y h size offset set is t)
-to_region w e a b s n at (place.Entry m) (region.Entry map index) x v y h size same offset set is t = to_entry w e a b s m map index n at x v y h size same.0 same.1 offset is t
-to_region w e a b s n at place.Context q x v y h size same offset set is t = absurd (cc)
-to_region w e a b s n at r q x v y h size same offset set is t = absurd same
+to_region e a b s n at (place.Stack k) (region.Stack j) x v y h size same offset set is t =
+    subst (λ i. Fine e s n y (region.Stack i) x b) same (to_stack e a b s k n at x v y h size offset set is t)
+to_region e a b s n at (place.Entry m) (region.Entry map index) x v y h size same offset set is t = to_entry e a b s m map index n at x v y h size same.0 same.1 offset is t
+to_region e a b s n at place.Context q x v y h size same offset set is t = absurd (cc)
+to_region e a b s n at r q x v y h size same offset set is t = absurd same
 
-through : (w : StateLaws) (e : Labels) (a b : View) (s : State) (n : ℕ) (by : ℤ) (v to : AbsVal) (x t : Value) → HoldsIn e a s → IsSize n → word_of by < 2 ^ 64 → Holds e a.rooms v x → Holds e a.rooms to t →
+through : (e : Labels) (a b : View) (s : State) (n : ℕ) (by : ℤ) (v to : AbsVal) (x t : Value) → HoldsIn e a s → IsSize n → word_of by < 2 ^ 64 → Holds e a.rooms v x → Holds e a.rooms to t →
     store e.setting.shapes a n v to by ≡ Ok b → IsFine e.setting.shapes (machine.store e.setting s n x t by) (HoldsIn e (next_pc b))
-through w e a b s n by abs.Unset to x t h size fits is at ok = absurd (cc)
-through w e a b s n by v (abs.Pointer r offset) x (value.Pointer q base) h size fits is at ok =
-    to_region w e a b s n (offset_of offset by) r q (word_add base (word_of by)) v x h size at.0 (offset_keeps offset base by fits at.1) refl is ok
-through w e a b s n by v (abs.Pointer r offset) x t h size fits is at ok = absurd at
-through w e a b s n by v to x t h size fits is at ok = absurd (cc)
+through e a b s n by abs.Unset to x t h size fits is at ok = absurd (cc)
+through e a b s n by v (abs.Pointer r offset) x (value.Pointer q base) h size fits is at ok =
+    to_region e a b s n (offset_of offset by) r q (word_add base (word_of by)) v x h size at.0 (offset_keeps offset base by fits at.1) refl is ok
+through e a b s n by v (abs.Pointer r offset) x t h size fits is at ok = absurd at
+through e a b s n by v to x t h size fits is at ok = absurd (cc)
 
-pub store_holds : StateLaws → StoreHolds
-store_holds w e a b s size v to x t by h fits is at ok = through w e a b s (size_bytes size) by v to x t h (size_is size) fits is at ok
+pub store_holds : StoreHolds
+store_holds e a b s size v to x t by h fits is at ok = through e a b s (size_bytes size) by v to x t h (size_is size) fits is at ok

@@ -8,35 +8,21 @@
 
 ghost use Rattle.bpf_sound_memory.specs.Laws.{LoadHolds, LoadCovers, StoreHolds, StoreCovers, AtomicHolds, AtomicCovers};
 
-use bpf_absstate::laws::{reading_law, register_law, stack_law};
-
 /// A load that the rules admit meets no fault, and the value that it loads is in the abstract value that they give.
 pub fn load_law()
     ensures holds { LoadHolds }
     ensures covers { LoadCovers }
-{
-    reading_law();
-    register_law();
-    stack_law();
-}
+{}
 
 /// A store that the rules admit meets no fault, and the state after it is in the abstract state that they give.
 pub fn store_law()
     ensures holds { StoreHolds }
     ensures covers { StoreCovers }
-{
-    reading_law();
-    register_law();
-    stack_law();
-}
+{}
 
 /// An atomic that the rules admit meets no fault, and the state after it, with the old number in its register, if any,
 /// is in the abstract state that they give.
 pub fn atomic_law()
     ensures holds { AtomicHolds }
     ensures covers { AtomicCovers }
-{
-    reading_law();
-    register_law();
-    stack_law();
-}
+{}

@@ -1,10 +1,6 @@
 use Rattle.bpf_sound_memory.proofs.Atomics.{atomic_holds}
 use Rattle.bpf_sound_memory.proofs.Insns.{atomic_covers}
-use Rattle.bpf_sound_memory.proofs.States.{StateLaws}
 use Rattle.bpf_sound_memory.proofs.atomic_law.Goals as goal
 
 pub returns : goal.returns
-returns c =
-    let r = c.reading_law.ensures in let g = c.register_law.ensures in let k = c.stack_law.ensures in
-    let w : StateLaws = record { registers = r.registers; depth = r.depth; stacks = r.stacks; change = g.change; slot = k.slot; slots = k.slots } in
-    record { holds = atomic_holds w; covers = atomic_covers w }
+returns c = record { holds = atomic_holds; covers = atomic_covers }

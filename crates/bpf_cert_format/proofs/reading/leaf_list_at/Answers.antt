@@ -23,7 +23,7 @@ loop-preserved c =
     let r = entry_at c.args.maps in
     record {
       read = rw (c.in_ok-push-in-Ok.ensures.items, c.in_ok-one-in-Ok.ensures.is) (goes_on EntryView r c.loop.list.items c.args.count c.loop.counter c.loop.rest.now c.in-Ok.entry c.in-Ok.after.now (many r c.args.count c.args.bytes.now) c.loop-test.true c.in-Ok.ensures.is c.loop.invariant.read);
-      last = entry_behind c.place_law.ensures.twice c.args.maps c.args.bytes.now c.loop.rest.now c.in-Ok.after.now c.in-Ok.entry (λ i. omega (arith, c.type_inv.bytes i)) c.loop.invariant.last c.in-Ok.ensures.is;
+      last = entry_behind c.args.maps c.args.bytes.now c.loop.rest.now c.in-Ok.after.now c.in-Ok.entry (λ i. omega (arith, c.type_inv.bytes i)) c.loop.invariant.last c.in-Ok.ensures.is;
     }
 
 pub returns : goal.returns
