@@ -71,6 +71,7 @@ fn close(
     }
 }
 
+#[inline(never)]
 pub(crate) fn on_close(
     alloc: Global,
     state: &mut State,

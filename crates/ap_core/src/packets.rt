@@ -46,6 +46,7 @@ fn context_of(came: &DataFrame<'_>, start: Option<SequenceNumber>) -> Context
 
 /// Passes data up at once, unless its verdict drops it. Everything is allocated before the verdict
 /// is asked for.
+#[inline(always)]
 fn deliver<J: Judge>(
     alloc: Global,
     state: &State,
@@ -155,6 +156,7 @@ fn item_of(verdict: u64, destination: Address, body: Octets) -> Option<Held>
 
 /// Handles data that its agreement's window wants. Everything is allocated before the verdict is
 /// asked for.
+#[inline(never)]
 fn on_wanted_data<J: Judge>(
     alloc: Global,
     state: &mut State,

@@ -175,6 +175,7 @@ fn on_class_three<J: Judge>(
 }
 
 /// A management frame of a permitted class.
+#[inline(never)]
 fn on_management<J: Judge>(
     setting: Setting<'_>,
     state: &mut State,
@@ -211,6 +212,7 @@ fn on_management<J: Judge>(
 }
 
 /// A control frame of a permitted class.
+#[inline(never)]
 fn on_control(
     setting: Setting<'_>,
     state: &mut State,
