@@ -330,7 +330,8 @@ pub(crate) fn follow<J: Judge>(
 {
     match came.frame.content() {
         Content::Management { body, .. } => {
-            let outs = on_management(setting, state, &came, body, judge)?;
+            let managed = came;
+            let outs = on_management(setting, state, &managed, body, judge)?;
             Ok(Outcome {
                 outs,
                 dropped: false,
