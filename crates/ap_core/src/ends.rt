@@ -71,7 +71,6 @@ fn close(
     }
 }
 
-#[inline(never)]
 pub(crate) fn on_close(
     alloc: Global,
     state: &mut State,

@@ -98,6 +98,7 @@ fn deliver<J: Judge>(
 }
 
 /// Handles data without an agreement.
+#[inline(always)]
 pub(crate) fn on_plain_data<J: Judge>(
     alloc: Global,
     state: &State,
@@ -165,7 +166,6 @@ fn item_of(verdict: u64, destination: Address, body: Octets) -> Option<Held>
 
 /// Handles data that its agreement's window wants. Everything is allocated before the verdict is
 /// asked for.
-#[inline(never)]
 fn on_wanted_data<J: Judge>(
     alloc: Global,
     state: &mut State,

@@ -198,7 +198,6 @@ impl Shard {
         tick(setting, &mut self.state, units, room, outs);
     }
 
-    #[inline(never)]
     fn on_tick(&mut self, alloc: Global, units: u32) -> Result<Vec<Out>, AllocError>
         ensures step { IfOk result
             (λ outs. Step (ruled self.old) (reads self.old) (Event.Tick units) [] outs.items
@@ -213,7 +212,6 @@ impl Shard {
         Ok(outs)
     }
 
-    #[inline(never)]
     fn on_kick(
         &mut self,
         alloc: Global,
