@@ -330,6 +330,7 @@ pub(crate) fn follow<J: Judge>(
 {
     match came.frame.content() {
         Content::Management { body, .. } => {
+            // A place of its own: where data comes, the frame then needs no place in memory.
             let managed = came;
             let outs = on_management(setting, state, &managed, body, judge)?;
             Ok(Outcome {
