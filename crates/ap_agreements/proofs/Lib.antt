@@ -1,5 +1,6 @@
 pub mod Numbers
 pub mod Keys
+pub mod Ranks
 pub mod Lookups
 pub mod Places
 pub mod Filters

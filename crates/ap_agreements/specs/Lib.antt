@@ -1,3 +1,4 @@
 pub mod Tables
 pub mod Uses
+pub mod Ranks
 pub mod Listing

@@ -10,6 +10,7 @@ ghost use Rattle.ap_agreements.specs.Tables.{Kept, key_of, agreement_in, is_late
 
 use crate::entry::{Entry, Released};
 use crate::in_force::AgreementInForce;
+use crate::key::Key;
 use ap_model::Held;
 use mac_types::{Address, SequenceNumber, Tid};
 use std::alloc::{AllocError, Global};
@@ -58,8 +59,8 @@ impl Agreements {
         ensures absent { IfErr result (IsPlaceFor self.now.kept (station, tid)) }
         ensures rising { IsRising self.now.kept }
     {
-        self.entries
-            .binary_search_by(|entry| entry.compare(station, tid))
+        let key = Key::new(station, tid);
+        self.entries.binary_search_by(|entry| entry.compare(&key))
     }
 
     /// The agreement of a station for a TID.

@@ -8,6 +8,7 @@ ghost use Rattle.ap_agreements.specs.Uses.{Opens, DataUse, AloneUse, RequestUse}
 ghost use Rattle.ap_agreements.specs.Listing.{row_of};
 
 use crate::in_force::AgreementInForce;
+use crate::key::Key;
 use ap_model::Held;
 use arrayvec::ArrayVec;
 use blockack::{Agreement, Placed, reading_law};
@@ -18,13 +19,6 @@ use std::marker::Model;
 
 /// What a window releases at once: frames with their sequence numbers, in order.
 pub type Released = ArrayVec<(u16, Held), 64>;
-
-/// Whose agreement it is. Keys are ordered by address, then by TID.
-#[derive(Clone, Copy, PartialEq, Eq, PartialOrd, Ord)]
-struct Key {
-    station: Address,
-    tid: Tid,
-}
 
 /// The agreement of a station for a TID: its window, its timeout, and when it was last used.
 #[derive(Drop)]
@@ -41,8 +35,8 @@ impl Model for Entry {
     ghost Value = { Kept };
 
     ghost view = { λ e. record {
-      station = e.key.station;
-      tid = e.key.tid;
+      station = e.key.0;
+      tid = e.key.1;
       using = record { window = e.window.value; timeout = e.timeout; last_use = e.last_use };
     } };
 }
@@ -54,7 +48,7 @@ impl Entry {
     {
         let window = Box::new(alloc, Agreement::open(0, 1))?;
         Ok(Entry {
-            key: Key { station, tid },
+            key: Key::new(station, tid),
             timeout: 0,
             last_use: 0,
             window,
@@ -78,20 +72,21 @@ impl Entry {
     pub fn station(&self) -> Address
         ensures { result ≡ self.now.station }
     {
-        self.key.station
+        self.key.station()
     }
 
     pub fn tid(&self) -> Tid
         ensures { result ≡ self.now.tid }
     {
-        self.key.tid
+        self.key.tid()
     }
 
     /// How its station and TID compare with these.
-    pub(crate) fn compare(&self, station: Address, tid: Tid) -> Ordering
-        ensures { result ≡ key_cmp (key_of self.now) (station, tid) }
+    #[inline(always)]
+    pub(crate) fn compare(&self, key: &Key) -> Ordering
+        ensures { result ≡ key_cmp (key_of self.now) key.now }
     {
-        self.key.cmp(&Key { station, tid })
+        self.key.compare(key)
     }
 
     /// The first sequence number of the window.
@@ -191,6 +186,7 @@ impl Entry {
     }
 
     /// Unwanted data came at this time.
+    #[inline(never)]
     pub fn leave(&mut self, number: SequenceNumber, clock: u64)
         requires { IsWanted self.old.using.window number → ⊥ }
         ensures key { key_of self.new ≡ key_of self.old }

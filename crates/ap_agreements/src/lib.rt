@@ -9,6 +9,7 @@
 mod agreements;
 mod entry;
 mod in_force;
+mod key;
 
 pub use agreements::Agreements;
 pub use entry::{Entry, Released};

@@ -33,6 +33,7 @@ pub(crate) struct DataFrame<'a> {
 }
 
 /// The hook's context for data, with the start of its agreement's window.
+#[inline(always)]
 fn context_of(came: &DataFrame<'_>, start: Option<SequenceNumber>) -> Context
     ensures { result ≡ contexts.data_context came.now.frame.sender came.now.standing came.now.tid
         came.now.number start }
@@ -46,6 +47,7 @@ fn context_of(came: &DataFrame<'_>, start: Option<SequenceNumber>) -> Context
 
 /// Passes data up at once, unless its verdict drops it. Everything is allocated before the verdict
 /// is asked for.
+#[inline(always)]
 fn deliver<J: Judge>(
     alloc: Global,
     state: &State,
@@ -60,18 +62,26 @@ fn deliver<J: Judge>(
     ensures refused { IfErr result (λ _. judge.new ≡ judge.old) }
 {
     let outs = Vec::with_capacity(alloc, 1)?;
-    let source = came.frame.sender();
     let context = context_of(&came, start);
-    let verdict = judge.judge(Hook::Data, &came.bytes, &context);
+    let DataFrame {
+        frame,
+        bytes,
+        destination,
+        tid,
+        number,
+        standing: _,
+    } = came;
+    let source = frame.sender();
+    let verdict = judge.judge(Hook::Data, &bytes, &context);
     match data_verdict(verdict) {
         DataVerdict::Pass(mark) => {
             let up = Up {
                 source,
-                destination: came.destination,
-                tid: came.tid,
-                number: came.number,
+                destination,
+                tid,
+                number,
                 mark,
-                body: Octets::new(came.frame.into_tail()),
+                body: Octets::new(frame.into_tail()),
             };
             Ok(Outcome {
                 outs: with_out(outs, Out::Up(up)),
@@ -88,6 +98,7 @@ fn deliver<J: Judge>(
 }
 
 /// Handles data without an agreement.
+#[inline(always)]
 pub(crate) fn on_plain_data<J: Judge>(
     alloc: Global,
     state: &State,

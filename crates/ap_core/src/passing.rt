@@ -42,6 +42,7 @@ pub(crate) fn pass_up(station: Address, tid: Tid, passed: Released, outs: &mut V
 }
 
 /// Passes up all that an ending agreement held.
+#[inline(never)]
 pub(crate) fn pass_all(entry: Entry, outs: &mut Vec<Out>)
     requires { vec_len outs.old + numbers_held entry.using.window ≤ vec_capacity outs.old }
     ensures passes { PassesAll entry outs.old.items outs.new.items }

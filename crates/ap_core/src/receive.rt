@@ -21,6 +21,7 @@ use std::alloc::{AllocError, Global};
 /// The note for a frame for another access point, or from a group address.
 const NOT_OURS: u8 = 56;
 
+#[inline(never)]
 fn noted(alloc: Global, number: u8) -> Result<Vec<Out>, AllocError>
     ensures { IfOk result (λ outs. outs.items ≡ Out.Note number ∷ []) }
 {

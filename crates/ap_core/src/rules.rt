@@ -175,6 +175,7 @@ fn on_class_three<J: Judge>(
 }
 
 /// A management frame of a permitted class.
+#[inline(never)]
 fn on_management<J: Judge>(
     setting: Setting<'_>,
     state: &mut State,
@@ -211,6 +212,7 @@ fn on_management<J: Judge>(
 }
 
 /// A control frame of a permitted class.
+#[inline(never)]
 fn on_control(
     setting: Setting<'_>,
     state: &mut State,
@@ -328,7 +330,9 @@ pub(crate) fn follow<J: Judge>(
 {
     match came.frame.content() {
         Content::Management { body, .. } => {
-            let outs = on_management(setting, state, &came, body, judge)?;
+            // A place of its own: where data comes, the frame then needs no place in memory.
+            let managed = came;
+            let outs = on_management(setting, state, &managed, body, judge)?;
             Ok(Outcome {
                 outs,
                 dropped: false,

@@ -10,6 +10,7 @@ mod class;
 mod holders;
 mod link;
 mod standing;
+mod station_key;
 
 pub use class::{Class, ClassAnswer, class_check, class_of};
 pub use link::Link;

@@ -9,6 +9,7 @@ ghost use Rattle.assoc.specs.Listing.{ListsStations, row_of};
 
 use crate::holders::Holders;
 use crate::standing::{Known, KnownStation, Standing};
+use crate::station_key::StationKey;
 use mac_frame::Address;
 use std::alloc::{AllocError, Global};
 use std::collections::HashMap;
@@ -25,7 +26,7 @@ const GREATEST_AID: u16 = 2007;
 #[derive(Drop)]
 pub struct Link {
     shard: u16,
-    stations: HashMap<Address, Known>,
+    stations: HashMap<StationKey, Known>,
     /// At index k the station that has identifier 8 k + shard.
     holders: Holders,
 }
@@ -58,15 +59,15 @@ fn is_open(holder: Option<Address>, station: Address) -> bool
 /// The entries of a table of stations, in the table's order.
 fn entries_of(
     alloc: Global,
-    stations: &HashMap<Address, Known>,
+    stations: &HashMap<StationKey, Known>,
 ) -> Result<Vec<KnownStation>, AllocError>
     ensures rows { IfOk result (λ rows. rows.items ≡ map row_of stations.now.entries) }
     ensures apart { IsDistinct same_address (keys_of stations.now.entries) }
 {
     stations
         .iter()
-        .map(|(station, known)| KnownStation {
-            station: *station,
+        .map(|(key, known)| KnownStation {
+            station: key.station,
             known: *known,
         })
         .collect(alloc)
@@ -95,10 +96,11 @@ impl Link {
     }
 
     /// A station's standing.
+    #[inline(always)]
     pub fn standing(&self, station: Address) -> Standing
         ensures { result ≡ standing self.now station }
     {
-        self.stations.get(&station).copied()
+        self.stations.get(&StationKey { station }).copied()
     }
 
     /// The known stations, each once with its standing, by increasing addresses.
@@ -151,7 +153,10 @@ impl Link {
             (Some Known.Authenticated) (standing self.new) }
     {
         self.holders.free((aid / 8) as usize);
-        match self.stations.insert(station, Known::Authenticated) {
+        match self
+            .stations
+            .insert(StationKey { station }, Known::Authenticated)
+        {
             Ok(_) => {}
             Err(_) => unreachable!(),
         }
@@ -186,7 +191,10 @@ impl Link {
     {
         let room = self.stations.len() < KNOWN_STATIONS;
         prove!(room);
-        match self.stations.insert(station, Known::Authenticated) {
+        match self
+            .stations
+            .insert(StationKey { station }, Known::Authenticated)
+        {
             Ok(_) => return Ok(()),
             Err(_) => return Err(AllocError),
         }
@@ -206,7 +214,7 @@ impl Link {
         ensures shard { self.new.shard ≡ self.old.shard }
         ensures moves { IsMoved (standing self.old) station None (standing self.new) }
     {
-        let _ = self.stations.remove(&station);
+        let _ = self.stations.remove(&StationKey { station });
     }
 
     /// The least identifier that may be granted to the station; its own counts as free. None if
@@ -247,7 +255,10 @@ impl Link {
             (Some (Known.Associated aid)) (standing self.new) }
     {
         self.holders.give((aid / 8) as usize, station);
-        match self.stations.insert(station, Known::Associated(aid)) {
+        match self
+            .stations
+            .insert(StationKey { station }, Known::Associated(aid))
+        {
             Ok(_) => {}
             Err(_) => unreachable!(),
         }

@@ -1,12 +1,12 @@
 -- Data that is passed up at once and alone.
-use Rattle.std.proofs.Common.{◌≡◌, ℕ, ◌+◌, ◌-◌, ◌%◌, ◌<◌, ◌≤◌, ◌≢◌, ◌++◌, ⊎_elim, Option, None, Some, List, length, get_or, sym, ap, ◌∙◌, arith}
-use Rattle.std.specs.Prelude.{is_some, IsSome}
+use Rattle.std.proofs.Common.{◌≡◌, ℕ, ◌+◌, ◌-◌, ◌%◌, ◌<◌, ◌≤◌, ◌≢◌, ◌++◌, ⊎_elim, Option, None, Some, List, get_or, sym, ap, ◌∙◌, arith}
+use Rattle.std.specs.Prelude.{is_some}
 use Rattle.std.proofs.lemmas.Bool.{cases_lt}
 use Rattle.blockack.specs.Window.{IsNextFree, with_item}
 use Rattle.blockack.specs.Passed.{frame_of}
 use Rattle.blockack.specs.Ring.{ring_at, gathered, ahead, IsSoundRing}
 use Rattle.blockack.proofs.SlotLaws.{mod_step, ring_in, ring_out, gathered_none, gathered_more}
-use Rattle.blockack.specs.Reading.{IsWanted, IsAlone}
+use Rattle.blockack.specs.Reading.{IsAlone}
 use Rattle.blockack.specs.declared.scoreboard.Bitmap.{Bitmap}
 use Rattle.blockack.proofs.MoveLaws.{with_same, with_other, slot_free}
 use Rattle.blockack.proofs.ReadingLaws.{seen, held_seen, wanted_in}

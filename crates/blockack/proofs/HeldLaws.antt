@@ -1,6 +1,6 @@
 -- How many numbers are held: those of the ring, from wherever it is read.
 use Rattle.std.proofs.Common.{◌≡◌, ℕ, ◌+◌, ◌-◌, ◌%◌, ◌<◌, ◌≤◌, ⊎_elim, Bool, true, false, cond, Option, None, List, [], ◌++◌, length, get_or, take, drop, refl, sym, ap, ◌∙◌, arith, map, length-append}
-use Rattle.std.specs.Prelude.{nat_lt, ◌&&◌, is_some, count_by}
+use Rattle.std.specs.Prelude.{nat_lt, ◌&&◌}
 use Rattle.std.specs.List.{range_with_len}
 use Rattle.std.proofs.lemmas.Bool.{cases_lt, and_parts}
 use Rattle.std.proofs.lemmas.Bool.Decides.{nat_tests}
@@ -49,10 +49,6 @@ module _ {F : Type 0} (slots : List (Option (Option F))) (start : ℕ) (len : le
       let all = sum_by-take-drop weight slots k in
       let parts = sum_by-append weight (drop k slots) (take k slots) in
       ap (λ (xs : List (Option (Option F))). held_count xs) turned ∙ parts ∙ omega (arith, all)
-
-  pub held_counted : (size : ℕ) (bitmap : Bitmap) → count_by is_some slots ≡ numbers_held (seen slots start size bitmap)
-  unfolding held_count
-  held_counted size bitmap = sym (held_in_all size bitmap)
 
 module _ {F : Type 0} (slots : List (Option (Option F))) (start size number : ℕ) (item : Option F) (sound : IsSoundRing slots start size) where
   -- data after the first number, within the window, is only held

@@ -1,10 +1,10 @@
 -- Lemmas on the ring of slots.
-use Rattle.std.proofs.Common.{◌≡◌, ℕ, ◌+◌, ◌%◌, ◌<◌, ◌≤◌, ◌≢◌, ◌⊎◌, inl, inr, ⊎_elim, true, false, cond, Option, None, Some, List, [], ◌++◌, length, get_or, refl, sym, ap, ◌∙◌, subst, arith, add-one, append_assoc, length-append}
+use Rattle.std.proofs.Common.{◌≡◌, ℕ, ◌+◌, ◌%◌, ◌<◌, ◌≤◌, ◌≢◌, ◌⊎◌, inl, inr, ⊎_elim, true, false, cond, Option, None, Some, List, [], ◌∷◌, ◌++◌, suc, length, get_or, refl, sym, ap, ◌∙◌, subst, arith, add-one, append_assoc, length-append}
 use Rattle.std.specs.Prelude.{is_some, IsSome, slice_set}
 use Rattle.std.proofs.lemmas.Bool.{cases_lt}
 use Rattle.std.proofs.lemmas.Bool.Decides.{nat_tests}
-use Rattle.std.proofs.lemmas.List.{get_or-set_other, get_or-set_same}
-use Rattle.std.proofs.lemmas.List.Sums.{sum_by-set, sum_by-le}
+use Rattle.std.proofs.lemmas.List.{get_or-set_other, get_or-set_same, get_or_past}
+use Rattle.std.proofs.lemmas.List.Sums.{sum_by-set, sum_by-le, sum_by-cons}
 use Rattle.std.proofs.lemmas.List.Elements.{All-from_get_or}
 use Rattle.std.proofs.lemmas.Grind.{common_steps}
 use Rattle.blockack.specs.Window.{Items}
@@ -116,6 +116,33 @@ module _ {F : Type 0} where
   frames_more h start moved at r first out e a s =
       ap (λ x. x ++ frame_of at r) e ∙ append_assoc first (gathered h start moved) (frame_of at r) ∙
       ap (λ x. first ++ x) (ap (λ n. gathered h start moved ++ frame_of n r) a ∙ ap (λ o. gathered h start moved ++ frame_of ((start + moved) % 4096) o) (sym s) ∙ sym (gathered_more h start moved))
+
+  -- how many are held after a slot is emptied
+  pub held_less : (slots : List (Option (Option F))) (k : ℕ) (r new : Option (Option F)) → k < length slots → get_or slots k None ≡ r → new ≡ None → held_count (slice_set slots k new) + weight r ≡ held_count slots
+  held_less slots k r new lt here gone =
+      let one = held_set slots k new lt in
+      let w : weight (get_or slots k None) ≡ weight r = ap weight here in
+      let z : weight new ≡ 0 = ap weight gone in
+      omega (arith, one, w, z)
+
+  -- where each slot is empty, nothing is held
+  pub none_counted : (slots : List (Option (Option F))) → ((i : ℕ) → get_or slots i None ≡ None) → held_count slots ≡ 0
+  unfolding held_count
+  none_counted [] empty = refl
+  none_counted (x ∷ xs) empty =
+      let here : weight x ≡ 0 = ap weight (empty 0) in
+      let rest = none_counted xs (λ i. empty (suc i)) in
+      let all = sum_by-cons weight x xs in
+      all ∙ omega (arith, here, rest)
+
+  -- where nothing is held, each slot is empty
+  pub none_held : (slots : List (Option (Option F))) (k : ℕ) → held_count slots ≡ 0 → get_or slots k None ≡ None
+  none_held slots k nothing =
+      ⊎_elim (λ lt. let one = held_set slots k None lt in by (get_or slots k None) (omega (arith, one, nothing))) (λ past. get_or_past slots k None past) (cases_lt k (length slots))
+    where
+      by : (o : Option (Option F)) → weight o ≡ 0 → o ≡ None
+      by None e = refl
+      by (Some x) e = absurd (omega (arith, e))
 
   pub room_more : (slots : List (Option (Option F))) (k at most : ℕ) (r new : Option (Option F)) (out out2 : List (ℕ × F)) → k < length slots → get_or slots k None ≡ r → new ≡ None → out2 ≡ out ++ frame_of at r → length out + held_count slots ≤ most → length out2 + held_count (slice_set slots k new) ≤ most
   room_more slots k at most r new out out2 lt here gone more room =

@@ -36,14 +36,16 @@ pub struct Agreement<F> {
     slots: [Slot<F>; 64],
     start: u16,
     size: u16,
+    /// How many slots are held.
+    count: u16,
     scoreboard: Bitmap,
 }
 
 impl<F> Model for Agreement<F> {
-    ghost use Rattle.std.specs.Prelude.{map};
+    ghost use Rattle.std.specs.Prelude.{◌≡◌, map};
     ghost use Rattle.std.specs.List.{range_with_len};
     ghost use Rattle.blockack.specs.Reading.{Reading};
-    ghost use Rattle.blockack.specs.Ring.{ring_at, IsSoundRing};
+    ghost use Rattle.blockack.specs.Ring.{ring_at, held_count, IsSoundRing};
     ghost use Rattle.blockack.specs.Scoreboard.{IsSoundBitmap};
 
     ghost Value = { Reading F };
@@ -56,7 +58,7 @@ impl<F> Model for Agreement<F> {
       scoreboard_bits = a.scoreboard.bits;
     } };
 
-    ghost invariant = { λ a. IsSoundRing a.slots a.start a.size × IsSoundBitmap a.size a.scoreboard.start a.scoreboard.bits };
+    ghost invariant = { λ a. IsSoundRing a.slots a.start a.size × IsSoundBitmap a.size a.scoreboard.start a.scoreboard.bits × (a.count ≡ held_count a.slots) };
 }
 
 impl<F: Drop> Agreement<F> {
@@ -74,6 +76,7 @@ impl<F: Drop> Agreement<F> {
             slots: empty_slots(),
             start,
             size,
+            count: 0,
             scoreboard: Bitmap::new(start, size),
         }
     }
@@ -113,7 +116,8 @@ impl<F: Drop> Agreement<F> {
         requires { number < 4096 }
         ensures { IsTrue result ↔ IsAlone self.now number }
     {
-        number == self.start && self.slots[((number + 1) % 64) as usize].is_none()
+        number == self.start
+            && (self.count == 0 || self.slots[((number + 1) % 64) as usize].is_none())
     }
 
     /// Data came (10.24.7.6.2) that is passed up at once and alone. The window doesn't store its item: the caller
@@ -156,7 +160,15 @@ impl<F: Drop> Agreement<F> {
         if !wanted {
             return Placed::Back(item);
         }
-        let passed = store(&mut self.slots, self.start, self.size, number, item, out);
+        let passed = store(
+            &mut self.slots,
+            self.start,
+            self.size,
+            number,
+            item,
+            out,
+            &mut self.count,
+        );
         self.start = (self.start + passed) % NUMBERS;
         Placed::Taken
     }
@@ -176,7 +188,7 @@ impl<F: Drop> Agreement<F> {
         if ahead >= HALF {
             return;
         }
-        let passed = skip(&mut self.slots, self.start, ahead, out);
+        let passed = skip(&mut self.slots, self.start, ahead, out, &mut self.count);
         self.start = (self.start + passed) % NUMBERS;
     }
 
@@ -192,8 +204,9 @@ impl<F: Drop> Agreement<F> {
             mut slots,
             start,
             size,
+            mut count,
             scoreboard: _,
         } = self;
-        let _passed = skip(&mut slots, start, size, out);
+        let _passed = skip(&mut slots, start, size, out, &mut count);
     }
 }

@@ -1,5 +1,5 @@
 //! The ring of 64 slots for what the window holds.
-ghost use Rattle.std.specs.Prelude.{◌≡◌, ℕ, ◌+◌, ◌-◌, ◌%◌, ◌<◌, ◌≤◌, ◌++◌, None, is_some, count_by, length, slice_index_or};
+ghost use Rattle.std.specs.Prelude.{◌≡◌, ℕ, ◌+◌, ◌-◌, ◌%◌, ◌<◌, ◌≤◌, ◌++◌, None, length, slice_index_or};
 ghost use Rattle.arrayvec.specs.ArrayVec.{array_vec_len};
 ghost use Rattle.blockack.specs.Window.{IsNextFree};
 ghost use Rattle.blockack.specs.Ring.{ring_at, held_count, gathered, ahead, stored, Shifts};
@@ -23,11 +23,11 @@ pub(crate) fn empty_slots<F>() -> [Slot<F>; 64]
     array::from_fn(|_| None)
 }
 
-pub(crate) fn held_slots<F>(slots: &[Slot<F>; 64]) -> usize
-    ensures is { result ≡ count_by is_some slots.now }
-    ensures of { length slots.now ≡ 64 }
+/// Gives proofs that there are 64 slots; does nothing.
+pub(crate) fn whole<F>(slots: &[Slot<F>; 64])
+    ensures { length slots.now ≡ 64 }
 {
-    slots.iter().filter(|slot| slot.is_some()).count()
+    let _count = slots.len();
 }
 
 /// How far `number` is ahead of `start`, modulo 4096.
@@ -40,21 +40,24 @@ pub(crate) fn distance(start: u16, number: u16) -> u16
 }
 
 /// Empties the first `least` slots from `start` on, and then the slots up to the first empty one.
-/// Appends their frames to `out`, and returns how many slots it passed.
+/// Appends their frames to `out`, keeps `held` the number of held slots, and returns how many slots it passed.
 pub(crate) fn advance<F: Drop, A>(
     slots: &mut [Slot<F>; 64],
     start: u16,
     least: u16,
     out: &mut ArrayVec<(u16, F), 64, A>,
+    held: &mut u16,
 ) -> u16
     requires start_fits { start < 4096 }
     requires least_fits { least < 4096 }
+    requires held { held.old ≡ held_count slots.old }
     requires room { array_vec_len out.old + held_count slots.old ≤ 64 }
     ensures next { IsNextFree (ring_at slots.old start) least result }
     ensures rest { Shifts result (ring_at slots.old start)
         (ring_at slots.new ((start + result) % 4096)) }
     ensures frames { out.new.items ≡ out.old.items ++ gathered (ring_at slots.old start) start
         result }
+    ensures held { held.new ≡ held_count slots.new }
     ensures room { array_vec_len out.new + held_count slots.new ≤ array_vec_len out.old + held_count
         slots.old }
 {
@@ -63,8 +66,11 @@ pub(crate) fn advance<F: Drop, A>(
     while moved < least || slots[(at % 64) as usize].is_some() {
         let slot = &mut slots[(at % 64) as usize];
         match slot.take() {
-            Some(Some(frame)) => out.push((at, frame)),
-            Some(None) => {}
+            Some(Some(frame)) => {
+                *held -= 1;
+                out.push((at, frame));
+            }
+            Some(None) => *held -= 1,
             None => {}
         }
         at = (at + 1) % NUMBERS;
@@ -79,18 +85,21 @@ pub(crate) fn skip<F: Drop, A>(
     start: u16,
     least: u16,
     out: &mut ArrayVec<(u16, F), 64, A>,
+    held: &mut u16,
 ) -> u16
     requires start_fits { start < 4096 }
     requires least_fits { least < 4096 }
+    requires held { held.old ≡ held_count slots.old }
     requires empty { array_vec_len out.old ≡ 0 }
     ensures next { IsNextFree (ring_at slots.old start) least result }
     ensures rest { Shifts result (ring_at slots.old start)
         (ring_at slots.new ((start + result) % 4096)) }
     ensures frames { out.new.items ≡ gathered (ring_at slots.old start) start result }
+    ensures held { held.new ≡ held_count slots.new }
     ensures of { length slots.old ≡ 64 }
     ensures few { array_vec_len out.new ≤ held_count slots.old }
 {
-    advance(slots, start, least, out)
+    advance(slots, start, least, out, held)
 }
 
 /// Stores `item` for `number`, moves the window as far as that needs, and then to the first missing number. Returns
@@ -102,6 +111,7 @@ pub(crate) fn store<F: Drop, A>(
     number: u16,
     item: Option<F>,
     out: &mut ArrayVec<(u16, F), 64, A>,
+    held: &mut u16,
 ) -> u16
     requires start_fits { start < 4096 }
     requires number_fits { number < 4096 }
@@ -111,17 +121,20 @@ pub(crate) fn store<F: Drop, A>(
     requires front { ring_at slots.old start 0 ≡ None }
     requires past { (i : ℕ) → size ≤ i → ring_at slots.old start i ≡ None }
     requires free { ring_at slots.old start (ahead start number) ≡ None }
+    requires held { held.old ≡ held_count slots.old }
     requires empty { array_vec_len out.old ≡ 0 }
     ensures next { IsNextFree (stored slots.old start number item) (ahead start number + 1 - size)
         result }
     ensures rest { Shifts result (stored slots.old start number item)
         (ring_at slots.new ((start + result) % 4096)) }
     ensures frames { out.new.items ≡ gathered (stored slots.old start number item) start result }
+    ensures held { held.new ≡ held_count slots.new }
     ensures of { length slots.old ≡ 64 }
     ensures few { array_vec_len out.new ≤ held_count slots.old + 1 }
 {
     let least = (distance(start, number) + 1).saturating_sub(size);
-    let passed = advance(slots, start, least, out);
+    let passed = advance(slots, start, least, out, held);
     slots[(number % 64) as usize] = Some(item);
-    passed + advance(slots, (start + passed) % NUMBERS, 0, out)
+    *held += 1;
+    passed + advance(slots, (start + passed) % NUMBERS, 0, out, held)
 }

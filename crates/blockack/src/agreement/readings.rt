@@ -3,7 +3,7 @@ ghost use Rattle.std.specs.Prelude.{◌≡◌, ◌^◌, ◌<◌, ◌≤◌};
 ghost use Rattle.blockack.specs.Reading.{numbers_held};
 
 use super::Agreement;
-use crate::ring::held_slots;
+use crate::ring::whole;
 
 impl<F: Drop> Agreement<F> {
     /// The first sequence number of the window, modulo 4096.
@@ -28,7 +28,8 @@ impl<F: Drop> Agreement<F> {
         ensures is { result ≡ numbers_held self.now }
         ensures fits { result ≤ 64 }
     {
-        held_slots(&self.slots)
+        whole(&self.slots);
+        usize::from(self.count)
     }
 
     /// What a BlockAck says (10.24.7.5): the scoreboard's first number modulo 4096, and a bit for each

@@ -4,7 +4,7 @@ use Rattle.std.proofs.lemmas.List.{length-set, append-nil}
 use Rattle.arrayvec.specs.ArrayVec.{array_vec_len}
 use Rattle.blockack.specs.Passed.{frame_of}
 use Rattle.blockack.specs.Ring.{ring_at, held_count}
-use Rattle.blockack.proofs.SlotLaws.{gathered_none, ring_step, held_set, read_is, mod_next, weight, front_is, some_below, none_from, full_more, frames_more, room_more}
+use Rattle.blockack.proofs.SlotLaws.{gathered_none, ring_step, held_set, read_is, mod_next, weight, front_is, some_below, none_from, full_more, frames_more, held_less, room_more}
 use Rattle.blockack.proofs.ring.advance.Goals as goal
 use Rattle.blockack.proofs.ring.advance.Goals.{in-Some-Some, in-Some-None, in-None, then-moved-least, else-moved-least+then-is_some}
 
@@ -20,6 +20,7 @@ loop-moved-init g c =
       full = λ k h lt. absurd (omega arith);
       rest = λ i. ap (ring_at c.args.slots.now c.args.start) (sym (zero-add i));
       frames = rw (gathered_none, append-nil) refl;
+      held = c.requires.held;
       room = omega arith;
     }
 
@@ -31,6 +32,23 @@ push-requires g c =
     let count = held_set c.loop-moved.slots (c.loop-moved.at % 64) None lt in
     let room : array_vec_len c.loop-moved.out < 64 = omega (arith, count, one, c.loop-moved.invariant.room, c.requires.room) in
     search rules
+
+-- a slot that is emptied is one of those held
+pub overflow_sub-held : goal.overflow_sub-held
+overflow_sub-held g c =
+    let lt : c.loop-moved.at % 64 < length c.loop-moved.slots = omega arith in
+    let here : get_or c.loop-moved.slots (c.loop-moved.at % 64) None ≡ c.take.result = read_is c.loop-moved.slots (c.loop-moved.at % 64) c.index-slots-at-in-loop-moved.result lt c.index-slots-at-in-loop-moved.is ∙ c.index-slots-at-in-loop-moved.is ∙ sym c.take.ensures.value in
+    let one : weight (get_or c.loop-moved.slots (c.loop-moved.at % 64) None) ≡ 1 = ap weight (here ∙ c.in-Some-Some.is) in
+    let count = held_set c.loop-moved.slots (c.loop-moved.at % 64) None lt in
+    omega (arith, count, one, c.loop-moved.invariant.held)
+
+pub overflow_sub-held-in-Some-None : goal.overflow_sub-held-in-Some-None
+overflow_sub-held-in-Some-None g c =
+    let lt : c.loop-moved.at % 64 < length c.loop-moved.slots = omega arith in
+    let here : get_or c.loop-moved.slots (c.loop-moved.at % 64) None ≡ c.take.result = read_is c.loop-moved.slots (c.loop-moved.at % 64) c.index-slots-at-in-loop-moved.result lt c.index-slots-at-in-loop-moved.is ∙ c.index-slots-at-in-loop-moved.is ∙ sym c.take.ensures.value in
+    let one : weight (get_or c.loop-moved.slots (c.loop-moved.at % 64) None) ≡ 1 = ap weight (here ∙ c.in-Some-None.is) in
+    let count = held_set c.loop-moved.slots (c.loop-moved.at % 64) None lt in
+    omega (arith, count, one, c.loop-moved.invariant.held)
 
 -- the loop goes on for one of two reasons
 goes : (g : _) (c : goal.Joined-take g) → (c.loop-moved.moved < c.args.least) ⊎ IsSome (ring_at c.args.slots.now c.args.start c.loop-moved.moved)
@@ -52,6 +70,25 @@ appends g c =
           ap (λ v. v.items) w.out-is ∙ sym (append-nil c.loop-moved.out.items) ∙ ap (λ o. c.loop-moved.out.items ++ frame_of c.loop-moved.at o) (sym (w.in-Some-None.is ∙ ap Some w.in-Some-None.field-0-is))
       | in-None w ↦
           ap (λ v. v.items) w.out-is ∙ sym (append-nil c.loop-moved.out.items) ∙ ap (λ o. c.loop-moved.out.items ++ frame_of c.loop-moved.at o) (sym w.in-None.is)
+    ]
+
+-- how many are held after this iteration
+holds : (g : _) (c : goal.Joined-take g) → c.match-take.held ≡ held_count (slice_set c.loop-moved.slots (c.loop-moved.at % 64) c.take.new.self)
+holds g c =
+    let lt : c.loop-moved.at % 64 < length c.loop-moved.slots = omega arith in
+    let here : get_or c.loop-moved.slots (c.loop-moved.at % 64) None ≡ c.take.result = read_is c.loop-moved.slots (c.loop-moved.at % 64) c.index-slots-at-in-loop-moved.result lt c.index-slots-at-in-loop-moved.is ∙ c.index-slots-at-in-loop-moved.is ∙ sym c.take.ensures.value in
+    let less = held_less c.loop-moved.slots (c.loop-moved.at % 64) c.take.result c.take.new.self lt here c.take.ensures.after in
+    let before = c.loop-moved.invariant.held in
+    elim c.match-take.branch [
+      | in-Some-Some w ↦
+          let one : weight c.take.result ≡ 1 = ap weight w.in-Some-Some.is in
+          omega (arith, less, one, before, w.held-is)
+      | in-Some-None w ↦
+          let one : weight c.take.result ≡ 1 = ap weight w.in-Some-None.is in
+          omega (arith, less, one, before, w.held-is)
+      | in-None w ↦
+          let none : weight c.take.result ≡ 0 = ap weight w.in-None.is in
+          omega (arith, less, none, before, w.held-is)
     ]
 
 pub loop-moved-smaller : goal.loop-moved-smaller
@@ -78,6 +115,7 @@ loop-moved-preserved g c =
           c.loop-moved.invariant.rest (1 + i) ∙
           ap (ring_at c.args.slots.now c.args.start) (let e : c.loop-moved.moved + (1 + i) ≡ c.loop-moved.moved + 1 + i = omega arith in e);
       frames = appends g c ∙ frames_more (ring_at c.args.slots.now c.args.start) c.args.start c.loop-moved.moved c.loop-moved.at c.take.result c.args.out.now.items c.loop-moved.out.items c.loop-moved.invariant.frames c.loop-moved.invariant.at (front ∙ here);
+      held = holds g c;
       room = room_more c.loop-moved.slots (c.loop-moved.at % 64) c.loop-moved.at (array_vec_len c.args.out.now + held_count c.args.slots.now) c.take.result c.take.new.self c.loop-moved.out.items c.match-take.out.items lt here c.take.ensures.after (appends g c) c.loop-moved.invariant.room;
     }
 

@@ -4,6 +4,7 @@ use Rattle.std.proofs.lemmas.List.{nil_from_length}
 use Rattle.arrayvec.specs.ArrayVec.{array_vec_len}
 use Rattle.blockack.specs.Window.{IsNextFree, with_item}
 use Rattle.blockack.specs.Ring.{ring_at, held_count, gathered, ahead}
+use Rattle.blockack.proofs.SlotLaws.{held_le}
 use Rattle.blockack.proofs.MoveLaws.{Between, between, slot_free, run_short, held_free, held_put, both_next, both_gathered}
 use Rattle.blockack.proofs.ring.store.Goals as goal
 
@@ -17,7 +18,7 @@ advance-passed-requires g c =
     let least : c.saturating_sub-least.result < 4096 = omega arith in
     search rules
 
-facts : (g : _) (c : goal.After-advance-arg-4-1 g) → Between c.args.slots.now c.advance-passed.new.slots c.args.start c.args.size c.args.number c.advance-passed.result c.args.item
+facts : (g : _) (c : goal.After-advance-arg-6-1 g) → Between c.args.slots.now c.advance-passed.new.slots c.args.start c.args.size c.args.number c.advance-passed.result c.args.item
 facts g c =
     let e : c.saturating_sub-least.result ≡ ahead c.args.start c.args.number + 1 - c.args.size = c.saturating_sub-least.ensures ∙ ap (λ x. x + 1 - c.args.size) c.distance.ensures in
     let len : length c.advance-passed.new.slots ≡ 64 = search rules in
@@ -34,8 +35,14 @@ advance-requires g c =
     let lt1 : c.args.number % 64 < length c.advance-passed.new.slots = omega arith in
     let put = held_put c.advance-passed.new.slots (c.args.number % 64) c.args.item lt1 (facts g c).free in
     let room : array_vec_len c.advance-passed.new.out + held_count (slice_set c.advance-passed.new.slots (c.args.number % 64) (Some c.args.item)) ≤ 64 = omega (arith, held, put, c.advance-passed.ensures.room) in
+    let held : c.advance-passed.new.held + 1 ≡ held_count (slice_set c.advance-passed.new.slots (c.args.number % 64) (Some c.args.item)) = omega (arith, put, c.advance-passed.ensures.held) in
     let start : (c.args.start + c.advance-passed.result) % 4096 < 4096 = omega arith in
     search rules
+
+pub overflow_add-held : goal.overflow_add-held
+overflow_add-held g c =
+    let len : length c.advance-passed.new.slots ≡ 64 = search rules in
+    omega (arith, len, held_le c.advance-passed.new.slots, c.advance-passed.ensures.held)
 
 pub overflow_add-result : goal.overflow_add-result
 overflow_add-result g c =

@@ -1,8 +1,7 @@
-use Rattle.std.proofs.Common.{ap, sym, subst, ◌∙◌, List}
-use Rattle.std.specs.Prelude.{slice_index_or}
-use Rattle.ap_agreements.specs.Tables.{Kept, Table}
+use Rattle.std.proofs.Common.{ap}
+use Rattle.ap_agreements.specs.Tables.{Table}
 use Rattle.ap_agreements.proofs.Places.{not_found}
-use Rattle.ap_agreements.proofs.Edits.{got, stands}
+use Rattle.ap_agreements.proofs.Edits.{stands}
 use Rattle.ap_agreements.proofs.agreements.Agreements.get_placed.Goals as goal
 
 pub returns-in-Ok : goal.returns-in-Ok

@@ -15,7 +15,7 @@ overflow_add-self g c =
     omega (arith, short, fits)
 
 pub invariant_of-self-2 : goal.invariant_of-self-2
-invariant_of-self-2 g c = (sound_moved c.self.inside.slots c.skip-passed.new.slots c.self.inside.start c.self.inside.size c.distance-ahead.result c.skip-passed.result c.self.invariant.0 c.skip-passed.ensures.next c.skip-passed.ensures.rest, c.on_request.ensures.sound)
+invariant_of-self-2 g c = (sound_moved c.self.inside.slots c.skip-passed.new.slots c.self.inside.start c.self.inside.size c.distance-ahead.result c.skip-passed.result c.self.invariant.0 c.skip-passed.ensures.next c.skip-passed.ensures.rest, c.on_request.ensures.sound, c.skip-passed.ensures.held)
 
 pub returns-clause-window : goal.returns-clause-window
 returns-clause-window g c =

@@ -23,13 +23,13 @@ pub returns-then-not-wanted-clause-scoreboard : goal.returns-then-not-wanted-cla
 returns-then-not-wanted-clause-scoreboard g c = rw (← c.self.view_is) c.on_data.ensures.step
 
 -- what the test says of the ring
-wanted : (g : _) (c : goal.After-store-arg-2-1 g) → IsWanted (seen c.self.inside.slots c.self.inside.start c.self.inside.size c.self.inside.scoreboard) c.args.number
+wanted : (g : _) (c : goal.After-store-arg-3-1 g) → IsWanted (seen c.self.inside.slots c.self.inside.start c.self.inside.size c.self.inside.scoreboard) c.args.number
 wanted g c =
     let t : c.wants-wanted.result ≡ true = search rules in
     let P : Reading g.row.F.Denot → Type 0 = λ v. IsWanted v c.args.number in
     subst P (sym c.self.view_is) (c.wants-wanted.ensures.reading.0 t)
 
-free : (g : _) (c : goal.After-store-arg-2-1 g) → ring_at c.self.inside.slots c.self.inside.start (ahead c.self.inside.start c.args.number) ≡ None
+free : (g : _) (c : goal.After-store-arg-3-1 g) → ring_at c.self.inside.slots c.self.inside.start (ahead c.self.inside.start c.args.number) ≡ None
 free g c = sym (held_seen c.self.inside.slots c.self.inside.start c.self.inside.size c.self.inside.scoreboard (ahead c.self.inside.start c.args.number)) ∙ (wanted g c).free
 
 pub store-passed-requires : goal.store-passed-requires
@@ -38,6 +38,7 @@ store-passed-requires g c =
     let free = free g c in
     let front = c.self.invariant.0.front in
     let past = c.self.invariant.0.past in
+    let held = c.self.invariant.2 in
     search rules
 
 pub overflow_add-self : goal.overflow_add-self
@@ -47,7 +48,7 @@ overflow_add-self g c =
     omega (arith, short, fits)
 
 pub invariant_of-self-2 : goal.invariant_of-self-2
-invariant_of-self-2 g c = (sound_after c.self.inside.slots c.store-passed.new.slots c.self.inside.start c.self.inside.size c.args.number c.store-passed.result c.args.item c.self.invariant.0 c.store-passed.ensures.next c.store-passed.ensures.rest, c.on_data.ensures.sound)
+invariant_of-self-2 g c = (sound_after c.self.inside.slots c.store-passed.new.slots c.self.inside.start c.self.inside.size c.args.number c.store-passed.result c.args.item c.self.invariant.0 c.store-passed.ensures.next c.store-passed.ensures.rest, c.on_data.ensures.sound, c.store-passed.ensures.held)
 
 pub returns-clause-window : goal.returns-clause-window
 returns-clause-window g c =

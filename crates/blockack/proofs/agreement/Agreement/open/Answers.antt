@@ -1,4 +1,5 @@
 use Rattle.std.proofs.Common.{◌∙◌, sym, arith}
+use Rattle.blockack.proofs.SlotLaws.{none_counted}
 use Rattle.blockack.proofs.MoveLaws.{ring_none}
 use Rattle.blockack.proofs.ReadingLaws.{held_seen}
 use Rattle.blockack.proofs.agreement.Agreement.open.Goals as goal
@@ -13,6 +14,7 @@ invariant_of-result g c = (
     past = λ i h. ring_none c.empty_slots.result c.args.start i c.empty_slots.ensures;
   },
   c.new.ensures.sound,
+  sym (none_counted c.empty_slots.result c.empty_slots.ensures),
 )
 
 pub returns-clause-window : goal.returns-clause-window

@@ -1,4 +1,4 @@
-use Rattle.std.proofs.Common.{arith, ◌≡◌, ◌+◌, ◌%◌, Option, sym, ap, ◌∙◌, subst, None, Some, true, ℕ}
+use Rattle.std.proofs.Common.{◌≡◌, ◌+◌, ◌%◌, Option, sym, ap, ◌∙◌, subst, None, Some, true, ℕ}
 use Rattle.blockack.specs.Reading.{Reading, IsAlone, DataMovesWindow}
 use Rattle.blockack.specs.Passed.{frame_of}
 use Rattle.blockack.specs.Ring.{ring_at, IsSoundRing}
@@ -20,6 +20,7 @@ invariant_of-self g c =
           (alone_next c.self.inside.slots c.self.inside.start c.self.inside.size c.self.invariant.0 c.args.number first none behind)
           (alone_rest c.self.inside.slots c.self.inside.start c.self.inside.size c.self.invariant.0 c.args.number first none)),
       c.on_data.ensures.sound,
+      c.self.invariant.2,
     )
 
 pub returns-clause-window : goal.returns-clause-window
