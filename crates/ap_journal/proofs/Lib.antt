@@ -1,2 +1,2 @@
-mod Prefixes
+pub mod Prefixes
 mod Turning

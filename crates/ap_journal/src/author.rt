@@ -1,6 +1,6 @@
 //! Who adds to a journal.
 
-ghost use Rattle.std.specs.Prelude.{◌≡◌, ◌+◌, ◌<◌, ◌^◌, [], length, IfSome, MatchBool};
+ghost use Rattle.std.specs.Prelude.{◌≡◌, ◌+◌, ◌<◌, ◌^◌, [], length, IfSome, IsFalse, IsTrue, MatchBool};
 ghost use Rattle.logbook.specs.Pages.{nib, may_write};
 ghost use Rattle.ap_journal.specs.Beginnings.{Begins, MayAdd, IsPrepared, with_entry};
 ghost use Rattle.ap_journal.specs.Turns.{word_of};
@@ -111,6 +111,26 @@ impl<E: Entry> Author<E> {
         self.word
             .compare_exchange::<Adds, Nothing>(0, 0, &mut known.seen, &mut offer, &mut turn);
         known.count += 1;
+    }
+
+    /// Adds the described entry as `add`, and prepares adding one more. Returns false, and changes
+    /// nothing, if the journal has about 2^61 entries, which no run reaches. No clause says when it
+    /// returns true.
+    pub fn add_on<D: Describes<E>>(&mut self, known: &mut Known<E>, described: &D) -> bool
+        requires { IsPrepared self.old known.old }
+        ensures author { IsTrue result → IsPrepared self.new known.new }
+        ensures added { IsTrue result → known.new ≡ with_entry known.old (D.entry described.now) }
+        ensures refused { IsFalse result → (self.new ≡ self.old) × (known.new ≡ known.old) }
+    {
+        if known.count >= MOST - 1 {
+            return false;
+        }
+        let Some(next) = next_turn(&self.word, &known.seen, known.count + 1) else {
+            return false;
+        };
+        self.add(known, described);
+        self.turn = Some(next);
+        true
     }
 }
 

@@ -1,6 +1,6 @@
 //! What is known of a journal.
 
-ghost use Rattle.std.specs.Prelude.{◌≡◌, ◌⊎◌};
+ghost use Rattle.std.specs.Prelude.{◌≡◌, ◌⊎◌, length};
 ghost use Rattle.ap_journal.specs.Beginnings.{Begins};
 
 use crate::rule::Law;
@@ -26,6 +26,13 @@ impl<E> Model for Known<E> {
 }
 
 impl<E> Known<E> {
+    /// How many entries it has.
+    pub fn len(&self) -> u64
+        ensures { result ≡ length self.now.entries }
+    {
+        self.count
+    }
+
     /// A copy.
     pub fn again(&self) -> Known<E>
         ensures { result ≡ self.now }

@@ -19,16 +19,6 @@ prefix_self (x ∷ xs) = (let r = prefix_self xs in r.0, ap (λ ys. x ∷ ys) (p
 pub prefix_trans : {A : Type 0} (xs ys zs : List A) → IsPrefix xs ys → IsPrefix ys zs → IsPrefix xs zs
 prefix_trans xs ys zs p q = (p.0 ++ q.0, sym (append_assoc xs p.0 q.0) ∙ (ap (λ w. w ++ q.0) p.1 ∙ q.1))
 
--- of two prefixes of one list the shorter is a prefix of the longer
-pub prefix_shorter : {A : Type 0} (xs ys zs : List A) → IsPrefix xs zs → IsPrefix ys zs → length xs ≤ length ys → IsPrefix xs ys
-prefix_shorter [] ys zs p q le = (ys, refl)
-prefix_shorter (x ∷ xs) [] zs p q le = absurd (omega arith)
-prefix_shorter (x ∷ xs) (y ∷ ys) [] p q le = absurd (cc (p.1))
-prefix_shorter (x ∷ xs) (y ∷ ys) (z ∷ zs) p q le =
-    let heads : x ≡ y = cc (p.1, q.1) in
-    let rest = prefix_shorter xs ys zs (p.0, cc (p.1)) (q.0, cc (q.1)) (omega arith) in
-    (rest.0, cc (heads, rest.1))
-
 -- a prefix as long as the whole list is the list
 pub prefix_whole : {A : Type 0} (xs ys : List A) → IsPrefix xs ys → length ys ≤ length xs → xs ≡ ys
 prefix_whole [] [] p le = refl
@@ -56,13 +46,12 @@ loads_prefix (Opened s ∷ xs) ys written pre =
     (ap shapes_of (sym pre.1), (loads_of pre.0, sym (loads_of-append xs pre.0) ∙ ap loads_of pre.1))
 loads_prefix (Loaded l ∷ xs) ys written pre = absurd (cc (written.order))
 
--- of two prefixes of one book the longer extends the shorter
-pub begins_from : (k l : Beginning) (b c : Book) (xs ys zs : List Entry) → beginning b xs ≡ k → beginning c ys ≡ l → l.list ≡ k.list → IsWritten xs
-    → IsPrefix xs zs → IsPrefix ys zs → length xs ≤ length ys → Begins k l
-begins_from k l b c xs ys zs k_is l_is same written one other le =
-    let p = loads_prefix xs ys written (prefix_shorter xs ys zs one other le) in
+-- of two written beginnings of one book, what extends the entries extends the loads
+pub begins_of : (k l : Beginning) (b c : Book) (xs ys : List Entry) → beginning b xs ≡ k → beginning c ys ≡ l → c ≡ b → IsWritten xs → IsPrefix xs ys → Begins k l
+begins_of k l b c xs ys k_is l_is same written extends =
+    let p = loads_prefix xs ys written extends in
     record {
-      same_list = same;
+      same_list = sym (ap (λ (x : Beginning). x.list) l_is) ∙ (same ∙ ap (λ (x : Beginning). x.list) k_is);
       same_shapes = sym (ap (λ (x : Beginning). x.shapes) l_is) ∙ (p.0 ∙ ap (λ (x : Beginning). x.shapes) k_is);
       has_all = subst (λ (ls : List Load). IsPrefix ls l.loads) (ap (λ (x : Beginning). x.loads) k_is)
           (subst (λ (ls : List Load). IsPrefix (loads_of xs) ls) (ap (λ (x : Beginning). x.loads) l_is) p.1);
@@ -81,14 +70,6 @@ written_more (Opened s ∷ xs) l written fits =
       fitting = subst (All (Fits s)) (sym loads) (All-append (Fits s) (loads_of xs) (l ∷ []) written.fitting (All-cons (Fits s) l [] fits (All-nil (Fits s))));
     }
 written_more (Loaded m ∷ xs) l written fits = absurd (cc (written.order))
-
--- a written book with all the loads of another has at least as many entries
-pub begins_count : (k l : Beginning) (b c : Book) (xs ys : List Entry) → beginning b xs ≡ k → beginning c ys ≡ l → IsWritten xs → IsWritten ys → Begins k l → length xs ≤ length ys
-begins_count k l b c xs ys k_is l_is one other begins =
-    let le : length k.loads ≤ length l.loads = prefix_length k.loads l.loads begins.has_all in
-    let k_loads : length (loads_of xs) ≡ length k.loads = ap (λ (x : Beginning). length x.loads) k_is in
-    let l_loads : length (loads_of ys) ≡ length l.loads = ap (λ (x : Beginning). length x.loads) l_is in
-    omega (arith, length-loads_of xs one, length-loads_of ys other)
 
 -- what a written book says with one more load
 pub added_is : (k : Beginning) (b c : Book) (xs ys : List Entry) (l : Load) → beginning b xs ≡ k → c ≡ b → ys ≡ xs ++ Loaded l ∷ [] → IsWritten xs

@@ -1,4 +1,3 @@
 pub mod Beginnings
-pub mod Turning
 pub mod Tying
 pub mod SetLemmas

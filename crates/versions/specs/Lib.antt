@@ -1,6 +1,5 @@
 pub mod Sets
 pub mod Lists
-pub mod Turns
 pub mod Ties
 pub mod Desks
 pub mod Wishes

@@ -1,8 +1,9 @@
 -- Lists of published loads, and their prefixes.
-use Rattle.std.specs.Prelude.{◌≡◌, ℕ, List, [], ◌∷◌, ◌++◌, map}
+use Rattle.std.specs.Prelude.{◌≡◌, ◌+◌, ℕ, List, [], ◌∷◌, ◌++◌, length, map, Some}
 use Rattle.std.specs.List.{All}
 use mathlib.Core.List.{IsPrefix}
 use Rattle.logbook.specs.Pages.{Book}
+use Rattle.ap_journal.specs.Beginnings.{Right}
 use Rattle.bpf_regions.specs.declared.maps.Shape.{Shape}
 use Rattle.versions.specs.declared.list.Entry.{Entry}
 use Rattle.versions.specs.declared.list.Entry.TheVariants.{Opened, Loaded}
@@ -60,3 +61,8 @@ beginning list entries =
 pub record IsWritten (entries : List Entry) : Type 0 where
   pub order : entries ≡ Opened (shapes_of entries) ∷ map Loaded (loads_of entries)
   pub fitting : All (Fits (shapes_of entries)) (loads_of entries)
+
+-- the right is to add after everything known
+pub record IsNext (a : Right) (k : Beginning) : Type 0 where
+  pub same_list : a.journal ≡ k.list
+  pub next : a.turn ≡ Some (length k.loads + 2)

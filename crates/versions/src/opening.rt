@@ -5,7 +5,7 @@ ghost use Rattle.std.specs.List.{All};
 ghost use Rattle.versions.specs.Desks.{IsTied, Shows, pending};
 ghost use Rattle.versions.specs.Lists.{readers_of};
 
-use crate::list::{Author, Known};
+use crate::list::Known;
 use crate::pool::Published;
 use crate::publisher::{Desk, Publisher, show};
 use crate::reader::Reader;

@@ -4,15 +4,15 @@ ghost use Rattle.std.specs.Prelude.{◌≡◌, ◌++◌, ◌∷◌, ◌↔◌, [
 ghost use Rattle.std.specs.Arc.{arc_value};
 ghost use Rattle.versions.specs.declared.fault.PublishFault.TheVariants.{OtherShapes};
 ghost use Rattle.versions.specs.Desks.{IsTied, Shows, pending};
-ghost use Rattle.versions.specs.Lists.{Beginning, Begins, with_load};
+ghost use Rattle.versions.specs.Lists.{Beginning, Begins, IsNext, with_load};
 ghost use Rattle.versions.specs.Sets.{HasOtherShapes, IsFor, kept, load};
-ghost use Rattle.versions.specs.Turns.{IsNext};
 
 use crate::fault::PublishFault;
-use crate::list::{Author, Known, Wanted};
+use crate::list::{Entry, Known, Wanted};
 use crate::reader::Reader;
 use crate::rule::{Enters, OneList};
 use crate::set::ProgramSet;
+use ap_journal::Author;
 use bpf_machine::Accepted;
 use bpf_regions::{Hook, Shape, Shapes};
 use core::mem::replace_with;
@@ -27,7 +27,7 @@ pub type Desk = Writer<ProgramSet, ProgramSet, Option<Known>, OneList>;
 /// The publisher. Contracts see the list of everything published. It isn't `Drop`: end it by `close`.
 pub struct Publisher {
     writer: Desk,
-    author: Author,
+    author: Author<Entry>,
     known: Known,
     shapes: Shapes,
 }
@@ -35,8 +35,7 @@ pub struct Publisher {
 impl Model for Publisher {
     ghost use Rattle.std.specs.Prelude.{◌≡◌};
     ghost use Rattle.versions.specs.Desks.{Shows};
-    ghost use Rattle.versions.specs.Lists.{Beginning};
-    ghost use Rattle.versions.specs.Turns.{IsNext};
+    ghost use Rattle.versions.specs.Lists.{Beginning, IsNext};
 
     ghost Value = { Beginning };
 
@@ -115,7 +114,12 @@ fn has_other_shapes(shapes: &Shapes, program: &Option<Arc<Accepted>>) -> bool
 
 impl Publisher {
     /// A publisher whose readers see the set before any load.
-    pub(crate) fn over(writer: Desk, author: Author, known: Known, shapes: Shapes) -> Publisher
+    pub(crate) fn over(
+        writer: Desk,
+        author: Author<Entry>,
+        known: Known,
+        shapes: Shapes,
+    ) -> Publisher
         requires shapes { shapes ≡ known.shapes }
         requires author { IsNext author known }
         requires shown { Shows writer known }
@@ -153,12 +157,12 @@ impl Publisher {
         ensures same { self.new ≡ self.old }
         ensures has_all { Begins reader.now self.old }
     {
-        self.author.look(&self.known, reader.known());
+        self.known.look(&mut self.author, reader.known());
     }
 
     /// Replaces one hook's program, or removes it, for readers that enter from here on. Waits for the readers that hold
     /// a set from before the last publication. The fault is 60 if and only if the program was accepted for maps of
-    /// other shapes; otherwise it is 40, if a program can't have one more owner or 2^61 loads were made.
+    /// other shapes; otherwise it is 40, if a program can't have one more owner or about 2^61 loads were made.
     pub fn publish<R: Wait>(
         &mut self,
         rt: &R,
@@ -210,9 +214,6 @@ impl Publisher {
         if has_other_shapes(&self.shapes, &program) {
             return (self, Err(PublishFault::OtherShapes));
         }
-        if !self.known.has_room() {
-            return (self, Err(PublishFault::NoMemory));
-        }
         let Ok(owners) = self.writer.published().loaded(hook, &program) else {
             return (self, Err(PublishFault::NoMemory));
         };
@@ -222,7 +223,7 @@ impl Publisher {
             known,
             shapes,
         } = self;
-        let Some(after) = author.add(&known, &Wanted { hook, program }) else {
+        let Some(after) = known.with(&mut author, &Wanted { hook, program }) else {
             let publisher = Publisher::over(writer, author, known, shapes);
             return (publisher, Err(PublishFault::NoMemory));
         };

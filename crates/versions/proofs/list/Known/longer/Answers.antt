@@ -1,21 +1,13 @@
-use Rattle.std.proofs.Common.{◌≤◌, ap, sym, ◌∙◌, subst, arith, length, List}
-use mathlib.Core.List.{IsPrefix}
-use Rattle.versions.specs.declared.list.Entry.{Entry}
-use Rattle.versions.proofs.Beginnings.{begins_from}
+use Rattle.std.proofs.Common.{refl}
+use Rattle.versions.proofs.Beginnings.{begins_of}
 use Rattle.versions.proofs.list.Known.longer.Goals as goal
 
-pub returns-then-self-other-clause-this : goal.returns-then-self-other-clause-this
-returns-then-self-other-clause-this c =
-    let whole = c.learn.new.self.log in
-    let this : IsPrefix c.self.inside.seen.log whole = subst (λ (l : List Entry). IsPrefix l whole) (ap (λ s. s.log) c.again-both.ensures) c.learn.ensures.2 in
-    let less : length c.self.inside.seen.log ≤ length c.other.inside.seen.log = omega (arith, c.self.invariant.0, c.other.invariant.0) in
-    begins_from _ _ _ _ c.self.inside.seen.log c.other.inside.seen.log whole c.self.view_is (c.other.view_is ∙ sym c.again.ensures)
-    (ap (λ k. k.list) c.again.ensures ∙ c.requires) c.self.invariant.1 this c.learn.ensures.3 less
+pub returns-clause-this : goal.returns-clause-this
+returns-clause-this c =
+    let begins = c.longer-entries.ensures.this in
+    begins_of c.args.self.now _ _ _ _ _ c.self.view_is refl begins.same_journal c.self.invariant begins.has_all
 
 pub returns-clause-that : goal.returns-clause-that
 returns-clause-that c =
-    let whole = c.learn.new.self.log in
-    let this : IsPrefix c.self.inside.seen.log whole = subst (λ (l : List Entry). IsPrefix l whole) (ap (λ s. s.log) c.again-both.ensures) c.learn.ensures.2 in
-    let less : length c.other.inside.seen.log ≤ length c.self.inside.seen.log = omega (arith, c.self.invariant.0, c.other.invariant.0) in
-    begins_from _ _ _ _ c.other.inside.seen.log c.self.inside.seen.log whole c.other.view_is (c.self.view_is ∙ sym c.again-else-self-other.ensures)
-    (ap (λ k. k.list) c.again-else-self-other.ensures ∙ sym c.requires) c.other.invariant.1 c.learn.ensures.3 this less
+    let begins = c.longer-entries.ensures.that in
+    begins_of c.args.other.now _ _ _ _ _ c.other.view_is refl begins.same_journal c.other.invariant begins.has_all
