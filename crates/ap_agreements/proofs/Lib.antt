@@ -1,4 +1,5 @@
 pub mod Numbers
+pub mod Passing
 pub mod Keys
 pub mod Ranks
 pub mod Lookups

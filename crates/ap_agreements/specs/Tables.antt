@@ -6,6 +6,7 @@ use Rattle.std.specs.declared.cmp.Ordering.TheVariants.{Less, Greater}
 use Rattle.std.specs.Cmp.Lexicographic.{slice_cmp}
 use Rattle.assoc.specs.Standings.{same_address}
 use Rattle.blockack.specs.Reading.{numbers_held}
+use Rattle.blockack.specs.Sinks.{ReceivesAll}
 use Rattle.ap_model.specs.Readings.{Using, Held}
 use Rattle.ap_agreements.specs.Uses.{DataUse, AloneUse, RequestUse}
 
@@ -76,7 +77,13 @@ abbrev pub UsesData : Bool → List Kept → List ℕ → ℕ → ℕ → Option
 UsesData took old a tid number item clock new passed =
     (u : Using) → agreement_in old a tid ≡ Some u → (u2 : Using) × DataUse took number item clock u u2 passed × Sets old a tid (Some u2) new
 
--- the same for data that is passed up at once, and nothing after it, whatever its item
+-- the agreement changes as data that is taken changes its window, and a sink receives what this passes up
+pub record PassesData {S : Type 0} (R : S → ℕ → Held → S → Type 0) (old : List Kept) (a : List ℕ) (tid number : ℕ) (item : Option Held) (clock : ℕ) (new : List Kept) (sink sink2 : S) : Type 0 where
+  pub passed : List (ℕ × Held)
+  pub uses : UsesData true old a tid number item clock new passed
+  pub received : ReceivesAll R sink passed sink2
+
+-- as `UsesData`, for data that is passed up at once, and nothing after it, whatever its item
 abbrev pub UsesAlone : List Kept → List ℕ → ℕ → ℕ → ℕ → List Kept → Type 0
 UsesAlone old a tid number clock new =
     (u : Using) → agreement_in old a tid ≡ Some u → (u2 : Using) × AloneUse number clock u u2 × Sets old a tid (Some u2) new

@@ -4,6 +4,7 @@ use Rattle.blockack.specs.Window.{opening}
 use Rattle.blockack.specs.Scoreboard.{ReadsScoreboard, blank}
 use Rattle.blockack.specs.Passed.{frame_of}
 use Rattle.blockack.specs.Reading.{Reads, DataMovesWindow, RequestMovesWindow, DataMarksScoreboard, RequestMovesScoreboard}
+use Rattle.blockack.specs.Sinks.{ReceivesAll}
 use Rattle.ap_model.specs.Readings.{Using, Held}
 
 -- it was opened at this time, and nothing has come for it
@@ -21,6 +22,12 @@ pub record DataUse (took : Bool) (number : ℕ) (item : Option Held) (clock : �
   pub marks : DataMarksScoreboard number old.window new.window
   pub timeout : new.timeout ≡ old.timeout
   pub last_use : new.last_use ≡ clock
+
+-- data came at this time that was taken, and a sink received what the window then passed up
+pub record PassingUse {S : Type 0} (R : S → ℕ → Held → S → Type 0) (number : ℕ) (item : Option Held) (clock : ℕ) (old new : Using) (sink sink2 : S) : Type 0 where
+  pub passed : List (ℕ × Held)
+  pub uses : DataUse true number item clock old new passed
+  pub received : ReceivesAll R sink passed sink2
 
 -- data came at this time that is passed up at once, and nothing after it: it was taken, whatever its item
 abbrev pub AloneUse : ℕ → ℕ → Using → Using → Type 0

@@ -1,17 +1,18 @@
 //! The agreements of a shard.
 
-ghost use Rattle.std.specs.Prelude.{◌≡◌, ◌-◌, ◌^◌, ◌≤◌, ◌<◌, ◌↔◌, ℕ, min, List, true, false, IfOk, IfErr, OnOk, OnErr, MatchOption, IsSome, None, Some, [], All, AllPairs, Contains, count_by, map, filter, not, length, slice_index_or, vec_len, vec_capacity};
+ghost use Rattle.std.specs.Prelude.{◌≡◌, ◌+◌, ◌-◌, ◌^◌, ◌≤◌, ◌<◌, ◌↔◌, ℕ, min, List, true, false, IfOk, IfErr, OnOk, OnErr, MatchOption, IsSome, None, Some, [], All, AllPairs, Contains, count_by, map, filter, not, length, slice_index_or, vec_len, vec_capacity};
 ghost use Rattle.arrayvec.specs.ArrayVec.{array_vec_len};
-ghost use Rattle.blockack.specs.Reading.{IsWanted, IsAlone, numbers_held, most_passed};
+ghost use Rattle.blockack.specs.Reading.{IsWanted, IsWaiting, IsAlone, numbers_held, most_passed};
 ghost use Rattle.ap_model.specs.Steps.{IsBefore};
 ghost use Rattle.ap_model.specs.Readings.{Using};
 ghost use Rattle.ap_agreements.specs.Listing.{ListsAgreements, row_of};
-ghost use Rattle.ap_agreements.specs.Tables.{Kept, key_of, agreement_in, is_late, IsRising, IsPlaceOf, IsPlaceFor, IsLateIn, unless_late, all_held, late_held, held_under, Stands, Sets, Discards, UsesData, UsesAlone, UsesRequest};
+ghost use Rattle.ap_agreements.specs.Tables.{Kept, key_of, agreement_in, is_late, IsRising, IsPlaceOf, IsPlaceFor, IsLateIn, unless_late, all_held, late_held, held_under, Stands, Sets, Discards, UsesData, PassesData, UsesAlone, UsesRequest};
 
 use crate::entry::{Entry, Released};
 use crate::in_force::AgreementInForce;
 use crate::key::Key;
 use ap_model::Held;
+use blockack::Sink;
 use mac_types::{Address, SequenceNumber, Tid};
 use std::alloc::{AllocError, Global};
 use std::marker::Model;
@@ -127,6 +128,42 @@ impl Agreements {
     {
         let entry = &mut self.entries[at];
         entry.take(number, item, clock, out);
+    }
+
+    /// Data that waits for an earlier number, in the window of the agreement at this index, came at
+    /// this time. The window holds its item, `None` if it was dropped.
+    pub fn hold(&mut self, at: usize, number: SequenceNumber, item: Option<Held>, clock: u64)
+        requires inside { at < length self.old.kept }
+        requires waits { (d : Kept) → IsWaiting (slice_index_or self.old.kept at d).using.window
+            number }
+        ensures { (a : List ℕ) (tid : ℕ) → IsPlaceOf self.old.kept (a, tid) at →
+            UsesData true self.old.kept a tid number item clock self.new.kept [] }
+    {
+        let entry = &mut self.entries[at];
+        entry.hold(number, item, clock);
+    }
+
+    /// Data that the window of the agreement at this index wants came at this time. The window takes
+    /// its item, `None` if it was dropped, and passes to `out` what it then passes up.
+    pub fn pass_to<S: Sink<Held>>(
+        &mut self,
+        at: usize,
+        number: SequenceNumber,
+        item: Option<Held>,
+        clock: u64,
+        out: &mut S,
+    )
+        requires inside { at < length self.old.kept }
+        requires wanted { (d : Kept) → IsWanted (slice_index_or self.old.kept at d).using.window
+            number }
+        requires room { (d : Kept) →
+            numbers_held (slice_index_or self.old.kept at d).using.window + 1 ≤ S.room out.old }
+        ensures { (a : List ℕ) (tid : ℕ) → IsPlaceOf self.old.kept (a, tid) at →
+            PassesData S.receives self.old.kept a tid number item clock self.new.kept out.old
+            out.new }
+    {
+        let entry = &mut self.entries[at];
+        entry.pass_to(number, item, clock, out);
     }
 
     /// Data came at this time that the window of the agreement at this index releases at once, and

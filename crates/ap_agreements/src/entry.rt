@@ -1,17 +1,17 @@
 //! One agreement.
 
-ghost use Rattle.std.specs.Prelude.{◌≡◌, ◌<◌, ◌≤◌, ◌↔◌, ℕ, IsTrue, IfOk, None, [], true, false, All};
+ghost use Rattle.std.specs.Prelude.{◌≡◌, ◌+◌, ◌<◌, ◌≤◌, ◌↔◌, ℕ, IsTrue, IfOk, None, [], true, false, All};
 ghost use Rattle.arrayvec.specs.ArrayVec.{array_vec_len};
-ghost use Rattle.blockack.specs.Reading.{IsWanted, IsAlone, EndPassesUp, numbers_held, most_passed};
+ghost use Rattle.blockack.specs.Reading.{IsWanted, IsWaiting, IsAlone, EndPassesUp, numbers_held, most_passed};
 ghost use Rattle.ap_agreements.specs.Tables.{key_cmp, key_of, is_late};
-ghost use Rattle.ap_agreements.specs.Uses.{Opens, DataUse, AloneUse, RequestUse};
+ghost use Rattle.ap_agreements.specs.Uses.{Opens, DataUse, PassingUse, AloneUse, RequestUse};
 ghost use Rattle.ap_agreements.specs.Listing.{row_of};
 
 use crate::in_force::AgreementInForce;
 use crate::key::Key;
 use ap_model::Held;
 use arrayvec::ArrayVec;
-use blockack::{Agreement, Placed, reading_law};
+use blockack::{Agreement, Placed, Sink, reading_law};
 use mac_types::{Address, SequenceNumber, Tid};
 use std::alloc::{AllocError, Global};
 use std::cmp::Ordering;
@@ -183,6 +183,36 @@ impl Entry {
     {
         self.last_use = clock;
         self.window.pass_alone(number.number());
+    }
+
+    /// Data came at this time that waits for an earlier number. The window holds its item, `None` if it
+    /// was dropped.
+    pub fn hold(&mut self, number: SequenceNumber, item: Option<Held>, clock: u64)
+        requires { IsWaiting self.old.using.window number }
+        ensures key { key_of self.new ≡ key_of self.old }
+        ensures uses { DataUse true number item clock self.old.using self.new.using [] }
+    {
+        self.last_use = clock;
+        self.window.hold(number.number(), item);
+    }
+
+    /// Wanted data came at this time. The window takes its item, `None` if it was dropped, and passes
+    /// to `out` what it then passes up.
+    pub fn pass_to<S: Sink<Held>>(
+        &mut self,
+        number: SequenceNumber,
+        item: Option<Held>,
+        clock: u64,
+        out: &mut S,
+    )
+        requires wanted { IsWanted self.old.using.window number }
+        requires room { numbers_held self.old.using.window + 1 ≤ S.room out.old }
+        ensures key { key_of self.new ≡ key_of self.old }
+        ensures uses { PassingUse S.receives number item clock self.old.using self.new.using out.old
+            out.new }
+    {
+        self.last_use = clock;
+        self.window.pass_to(number.number(), item, out);
     }
 
     /// Unwanted data came at this time.

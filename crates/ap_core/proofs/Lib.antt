@@ -3,6 +3,7 @@ pub mod Authentications
 pub mod Lists
 pub mod AssociationLaws
 pub mod DataLaws
+pub mod UpsLaws
 pub mod RequestLaws
 pub mod EndLaws
 pub mod SetupLaws

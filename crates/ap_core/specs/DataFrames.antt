@@ -1,5 +1,5 @@
 -- A received data frame, and how it is handled.
-use Rattle.std.specs.Prelude.{◌≡◌, ◌≤◌, ℕ, Bool, Option, Some, List}
+use Rattle.std.specs.Prelude.{◌≡◌, ℕ, Bool, Option, Some, List}
 use Rattle.bpf_regions.specs.declared.hooks.Hook.TheVariants as hook
 use Rattle.mac_frame.specs.Spelling.{spelling}
 use Rattle.assoc.specs.Standings.{Standings, standing}
@@ -35,10 +35,10 @@ pub record IsUnder (ks : List Kept) (d : DataFrame) (under : Under) (P : Reading
   pub starts : under.start ≡ kept.using.window.start
   pub is : P kept.using.window d.number
 
--- the window wants data with this sequence number, which passes up at most this many frames
+-- the window wants data with this sequence number, for which this is the bound on the frames that it passes up
 pub record IsWantedFor (most : ℕ) (window : Reading Held) (number : ℕ) : Type 0 where
   pub wanted : IsWanted window number
-  pub few : most_passed window number ≤ most
+  pub bound : most_passed window number ≡ most
 
 -- its verdict is asked for with this window start, and passes it up or drops it
 pub record IsJudged (st : Standings) (p : Packet) (start : Option ℕ) (asked : List (Ask × ℕ)) (outs : List Out) : Type 0 where

@@ -10,10 +10,9 @@ ghost use Rattle.ap_core.specs.Handles.{reading, held_item};
 ghost use Rattle.ap_core.specs.DataFrames.{IsRead, IsUnder, IsWantedFor, HandlesData, JudgesData};
 
 use crate::outcome::Outcome;
-use crate::passing::pass_up;
+use crate::passing::Ups;
 use crate::room::with_out;
 use crate::state::State;
-use ap_agreements::Released;
 use ap_model::{Held, Judge, Octets, Out, Up};
 use assoc::Standing;
 use bpf_regions::{Context, Frame, Hook};
@@ -124,7 +123,8 @@ pub(crate) struct Under {
     pub(crate) start: SequenceNumber,
 }
 
-/// An agreement whose window wants a data frame, and the most frames that the window then passes up.
+/// An agreement whose window wants a data frame, and the most frames that the window then passes up: none if the data
+/// waits for an earlier number.
 #[derive(Clone, Copy)]
 struct Wanted {
     under: Under,
@@ -183,7 +183,7 @@ fn on_wanted_data<J: Judge>(
     ensures refused { IfErr result (λ _. (state.new ≡ state.old) × (judge.new ≡ judge.old)) }
 {
     let Wanted { under, most } = wanted;
-    let mut outs = Vec::with_capacity(alloc, most)?;
+    let outs = Vec::with_capacity(alloc, most)?;
     let station = came.frame.sender();
     let context = context_of(&came, Some(under.start));
     let verdict = judge.judge(Hook::Data, &came.bytes, &context);
@@ -193,12 +193,22 @@ fn on_wanted_data<J: Judge>(
     let item = item_of(verdict, destination, body);
     let dropped = item.is_none();
     let clock = state.clock;
-    let mut passed = Released::new();
+    if most == 0 {
+        state.agreements.hold(under.at, number, item, clock);
+        return Ok(Outcome { outs, dropped });
+    }
+    let mut ups = Ups {
+        station,
+        tid: under.tid,
+        outs,
+    };
     state
         .agreements
-        .take(under.at, number, item, clock, &mut passed);
-    pass_up(station, under.tid, passed, &mut outs);
-    Ok(Outcome { outs, dropped })
+        .pass_to(under.at, number, item, clock, &mut ups);
+    Ok(Outcome {
+        outs: ups.outs,
+        dropped,
+    })
 }
 
 pub(crate) fn on_qos_data<J: Judge>(

@@ -8,6 +8,7 @@ ghost use Rattle.ap_core.specs.Handles.{PassesAll, held_replaced};
 
 use ap_agreements::{Entry, Released};
 use ap_model::{Held, Out};
+use blockack::Sink;
 use mac_frame::{Address, SequenceNumber, Tid};
 
 fn push_held(station: Address, tid: Tid, number: u16, held: Held, outs: &mut Vec<Out>)
@@ -24,6 +25,27 @@ fn push_held(station: Address, tid: Tid, number: u16, held: Held, outs: &mut Vec
     match held.up(station, tid, number) {
         Some(up) => outs.push_reserved(Out::Up(up)),
         None => {}
+    }
+}
+
+/// A list of outputs, to which a station's window for a TID passes frames up.
+#[derive(Drop)]
+pub(crate) struct Ups {
+    pub(crate) station: Address,
+    pub(crate) tid: Tid,
+    pub(crate) outs: Vec<Out>,
+}
+
+impl Sink<Held> for Ups {
+    ghost use Rattle.std.specs.Prelude.{◌≡◌, ◌-◌, ◌++◌, vec_len, vec_capacity};
+    ghost use Rattle.ap_model.specs.Agreements.{up_held};
+
+    ghost room = { λ u. vec_capacity u.outs - vec_len u.outs };
+
+    ghost receives = { λ u number held v. (v.station ≡ u.station) × (v.tid ≡ u.tid) × (v.outs.items ≡ u.outs.items ++ up_held u.station u.tid number held) };
+
+    fn receive(&mut self, number: u16, frame: Held) {
+        push_held(self.station, self.tid, number, frame, &mut self.outs);
     }
 }
 

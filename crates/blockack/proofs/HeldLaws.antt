@@ -1,18 +1,18 @@
 -- How many numbers are held: those of the ring, from wherever it is read.
-use Rattle.std.proofs.Common.{◌≡◌, ℕ, ◌+◌, ◌-◌, ◌%◌, ◌<◌, ◌≤◌, ⊎_elim, Bool, true, false, cond, Option, None, List, [], ◌++◌, length, get_or, take, drop, refl, sym, ap, ◌∙◌, arith, map, length-append}
-use Rattle.std.specs.Prelude.{nat_lt, ◌&&◌}
+use Rattle.std.proofs.Common.{◌≡◌, ℕ, ◌+◌, ◌-◌, ◌%◌, ◌<◌, ◌≤◌, ◌≢◌, ⊎_elim, Bool, true, false, cond, Option, None, Some, List, [], ◌++◌, length, get_or, take, drop, refl, sym, ap, ◌∙◌, arith, map, length-append}
+use Rattle.std.specs.Prelude.{nat_lt, ◌&&◌, slice_set}
 use Rattle.std.specs.List.{range_with_len}
 use Rattle.std.proofs.lemmas.Bool.{cases_lt, and_parts}
 use Rattle.std.proofs.lemmas.Bool.Decides.{nat_tests}
-use Rattle.std.proofs.lemmas.List.{ext_get_or, length-drop, length-take-le, get_or-drop, get_or-take, get_or_append_left, get_or-append_right}
+use Rattle.std.proofs.lemmas.List.{ext_get_or, length-set, length-drop, length-take-le, get_or-drop, get_or-take, get_or_append_left, get_or-append_right}
 use Rattle.std.proofs.lemmas.List.Sums.{sum_by-append, sum_by-take-drop}
 use Rattle.std.proofs.lemmas.List.FromFn.{get_or-map-range_with_len, length-map-range_with_len}
 use Rattle.blockack.specs.Window.{IsNextFree, with_item}
 use Rattle.blockack.specs.Ring.{ring_at, held_count, gathered, ahead, IsSoundRing}
-use Rattle.blockack.specs.Reading.{numbers_held, most_passed}
+use Rattle.blockack.specs.Reading.{Reading, numbers_held, most_passed}
 use Rattle.blockack.specs.declared.scoreboard.Bitmap.{Bitmap}
 use Rattle.blockack.proofs.SlotLaws.{ring_in, weight, gathered_none}
-use Rattle.blockack.proofs.MoveLaws.{with_other, not_some}
+use Rattle.blockack.proofs.MoveLaws.{with_other, not_some, slot_free, held_free, ring_put}
 use Rattle.blockack.proofs.ReadingLaws.{seen}
 
 module _ {F : Type 0} (slots : List (Option (Option F))) (start : ℕ) (len : length slots ≡ 64) where
@@ -69,11 +69,11 @@ module _ {F : Type 0} (slots : List (Option (Option F))) (start size number : �
       ap (λ n. gathered items start n) (waits behind within passed next) ∙ gathered_none items start
 
   -- data passes up no more than it may
-  pub few_passed : length slots ≡ 64 → (bitmap : Bitmap) (passed : ℕ) (out : List (ℕ × F)) →
+  pub few_passed : (bitmap : Bitmap) (passed : ℕ) (out : List (ℕ × F)) →
       IsNextFree (with_item (ring_at slots start) (ahead start number) item) (ahead start number + 1 - size) passed →
       out ≡ gathered (with_item (ring_at slots start) (ahead start number) item) start passed → length out ≤ held_count slots + 1 →
       length out ≤ most_passed (seen slots start size bitmap) number
-  few_passed len bitmap passed out next frames few = by (nat_lt 0 (ahead start number) && nat_lt (ahead start number) size) refl
+  few_passed bitmap passed out next frames few = by (nat_lt 0 (ahead start number) && nat_lt (ahead start number) size) refl
     where
       by : (b : Bool) → (nat_lt 0 (ahead start number) && nat_lt (ahead start number) size) ≡ b → length out ≤ cond b 0 (numbers_held (seen slots start size bitmap) + 1)
       by true e =
@@ -84,4 +84,67 @@ module _ {F : Type 0} (slots : List (Option (Option F))) (start size number : �
           let within : ahead start number < size = grind (arith, nat_tests) in
           let none = ap (λ (xs : List (ℕ × F)). length xs) (frames ∙ waiting_passes_none behind within passed next) in
           omega (arith, none)
-      by false e = let held = held_in_all slots start len size bitmap in omega (arith, held, few)
+      by false e = let held = held_in_all slots start sound.long size bitmap in omega (arith, held, few)
+
+  -- data within the window, after its first number, passes no slot
+  pub waits_free : 0 < ahead start number → ahead start number < size → IsNextFree (with_item (ring_at slots start) (ahead start number) item) (ahead start number + 1 - size) 0
+  waits_free behind within =
+      let ne : 0 ≢ ahead start number = λ e. omega (arith, e, behind) in
+      record {
+        above = omega (arith, within);
+        free = with_other (ring_at slots start) (ahead start number) item 0 ne ∙ sound.front;
+        full = λ k le lt. absurd (omega (arith, lt));
+      }
+
+  -- the ring after such data was stored
+  module _ (slots2 : List (Option (Option F))) (fits : number < 4096) (is : slots2 ≡ slice_set slots (number % 64) (Some item)) (behind : 0 < ahead start number) (within : ahead start number < size) where
+    pub waiting_ring : (i : ℕ) → ring_at slots2 start i ≡ with_item (ring_at slots start) (ahead start number) item i
+    waiting_ring i =
+        let sfits = sound.start_fits in
+        let lt : ahead start number < 64 = omega (arith, within, sound.size_fits) in
+        let place : number % 64 ≡ (start + ahead start number) % 64 = omega (arith, fits, sfits) in
+        ap (λ s. ring_at s start i) is ∙ ring_put slots start (ahead start number) (number % 64) item sound.long lt place i
+
+    pub waiting_sound : IsSoundRing slots2 start size
+    waiting_sound =
+        record {
+          long = ap length is ∙ length-set slots (number % 64) (Some item) ∙ sound.long;
+          start_fits = sound.start_fits;
+          some_size = sound.some_size;
+          size_fits = sound.size_fits;
+          front = waiting_ring 0 ∙ with_other (ring_at slots start) (ahead start number) item 0 (λ e. omega (arith, e, behind)) ∙ sound.front;
+          past = λ i le. waiting_ring i ∙ with_other (ring_at slots start) (ahead start number) item i (λ e. omega (arith, e, within, le)) ∙ sound.past i le;
+        }
+
+-- where data may pass up nothing, it waits
+pub waits_within : {F : Type 0} (v : Reading F) (number : ℕ) → most_passed v number ≡ 0 → (0 < ahead v.start number) × (ahead v.start number < v.size)
+waits_within v number none = by (nat_lt 0 (ahead v.start number) && nat_lt (ahead v.start number) v.size) refl none
+  where
+    by : (b : Bool) → (nat_lt 0 (ahead v.start number) && nat_lt (ahead v.start number) v.size) ≡ b → cond b 0 (numbers_held v + 1) ≡ 0 → (0 < ahead v.start number) × (ahead v.start number < v.size)
+    by true e z =
+        let parts = and_parts (nat_lt 0 (ahead v.start number)) (nat_lt (ahead v.start number) v.size) e in
+        let first = parts.0 in
+        let second = parts.1 in
+        (grind (arith, nat_tests), grind (arith, nat_tests))
+    by false e z = absurd (omega (arith, z))
+
+-- data that doesn't wait may pass up one frame more than are held
+pub most_of : {F : Type 0} (v : Reading F) (number : ℕ) → (0 < ahead v.start number → ahead v.start number < v.size → ⊥) → numbers_held v + 1 ≡ most_passed v number
+most_of v number not = by (nat_lt 0 (ahead v.start number) && nat_lt (ahead v.start number) v.size) refl
+  where
+    by : (b : Bool) → (nat_lt 0 (ahead v.start number) && nat_lt (ahead v.start number) v.size) ≡ b → numbers_held v + 1 ≡ cond b 0 (numbers_held v + 1)
+    by true e =
+        let parts = and_parts (nat_lt 0 (ahead v.start number)) (nat_lt (ahead v.start number) v.size) e in
+        let first = parts.0 in
+        let second = parts.1 in
+        absurd (not (grind (arith, nat_tests)) (grind (arith, nat_tests)))
+    by false e = refl
+
+-- the first slot is empty, so there is room for one more
+pub room_for_one : {F : Type 0} (slots : List (Option (Option F))) (start size : ℕ) (bitmap : Bitmap) → IsSoundRing slots start size → numbers_held (seen slots start size bitmap) + 1 ≤ 64
+room_for_one slots start size bitmap sound =
+    let place : start % 64 ≡ (start + 0) % 64 = omega arith in
+    let zero64 : 0 < 64 = omega arith in
+    let lt : start % 64 < length slots = omega (arith, sound.long) in
+    let free = held_free slots (start % 64) lt (slot_free slots start 0 (start % 64) zero64 place sound.front) in
+    omega (arith, free, sound.long, held_in_all slots start sound.long size bitmap)

@@ -6,5 +6,6 @@ pub mod HeldLaws
 pub mod ScoreboardLaws
 pub mod SameLaws
 pub mod BelowLaws
+pub mod SinkLaws
 pub mod CallLaws
 pub mod AloneLaws

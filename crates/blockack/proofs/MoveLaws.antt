@@ -151,13 +151,14 @@ module _ {F : Type 0} where
       ⊎_elim (λ lt. absurd (not_some (ring_at slots start 64) (ring_out slots start 64 (omega arith)) (next.full 64 (omega arith) lt))) (λ le. le) (cases_lt 64 k)
 
   -- the ring after data was taken
-  pub sound_after : (slots slots2 : List (Option (Option F))) (start size number j : ℕ) (item : Option F) → IsSoundRing slots start size →
+  pub sound_after : (slots slots2 : List (Option (Option F))) (start size number j : ℕ) (item : Option F) → IsSoundRing slots start size → length slots2 ≡ 64 →
       IsNextFree (with_item (ring_at slots start) (ahead start number) item) (ahead start number + 1 - size) j →
       ((i : ℕ) → ring_at slots2 ((start + j) % 4096) i ≡ with_item (ring_at slots start) (ahead start number) item (j + i)) → IsSoundRing slots2 ((start + j) % 4096) size
-  sound_after slots slots2 start size number j item sound next rest =
+  sound_after slots slots2 start size number j item sound long next rest =
       let some = sound.some_size in
       let above = next.above in
       record {
+        long = long;
         start_fits = omega arith;
         some_size = some;
         size_fits = sound.size_fits;
@@ -185,10 +186,11 @@ module _ {F : Type 0} where
   ring_none slots start i none = ⊎_elim (λ lt. ring_in slots start i lt ∙ none ((start + i) % 64)) (λ out. ring_out slots start i out) (cases_lt i 64)
 
   -- the ring after a move
-  pub sound_moved : (slots slots2 : List (Option (Option F))) (start size least j : ℕ) → IsSoundRing slots start size → IsNextFree (ring_at slots start) least j →
+  pub sound_moved : (slots slots2 : List (Option (Option F))) (start size least j : ℕ) → IsSoundRing slots start size → length slots2 ≡ 64 → IsNextFree (ring_at slots start) least j →
       ((i : ℕ) → ring_at slots2 ((start + j) % 4096) i ≡ ring_at slots start (j + i)) → IsSoundRing slots2 ((start + j) % 4096) size
-  sound_moved slots slots2 start size least j sound next rest =
+  sound_moved slots slots2 start size least j sound long next rest =
       record {
+        long = long;
         start_fits = omega arith;
         some_size = sound.some_size;
         size_fits = sound.size_fits;

@@ -1,5 +1,5 @@
 -- Lemmas on the ring of slots.
-use Rattle.std.proofs.Common.{◌≡◌, ℕ, ◌+◌, ◌%◌, ◌<◌, ◌≤◌, ◌≢◌, ◌⊎◌, inl, inr, ⊎_elim, true, false, cond, Option, None, Some, List, [], ◌∷◌, ◌++◌, suc, length, get_or, refl, sym, ap, ◌∙◌, subst, arith, add-one, append_assoc, length-append}
+use Rattle.std.proofs.Common.{◌≡◌, ℕ, ◌+◌, ◌%◌, ◌<◌, ◌≤◌, ◌≢◌, ◌⊎◌, inl, inr, ⊎_elim, true, false, cond, Option, None, Some, List, [], ◌∷◌, ◌++◌, suc, length, get_or, refl, sym, ap, ◌∙◌, subst, arith, add-one, length-append}
 use Rattle.std.specs.Prelude.{is_some, IsSome, slice_set}
 use Rattle.std.proofs.lemmas.Bool.{cases_lt}
 use Rattle.std.proofs.lemmas.Bool.Decides.{nat_tests}
@@ -112,10 +112,10 @@ module _ {F : Type 0} where
       ⊎_elim (λ early. absurd (omega arith)) (λ some. let P : ℕ → Type 0 = λ n. IsSome (h n) in subst P e some) here)
       (cases_lt k moved)
 
-  pub frames_more : (h : Items F) (start moved at : ℕ) (r : Option (Option F)) (first out : List (ℕ × F)) → out ≡ first ++ gathered h start moved → at ≡ (start + moved) % 4096 → h moved ≡ r → out ++ frame_of at r ≡ first ++ gathered h start (moved + 1)
-  frames_more h start moved at r first out e a s =
-      ap (λ x. x ++ frame_of at r) e ∙ append_assoc first (gathered h start moved) (frame_of at r) ∙
-      ap (λ x. first ++ x) (ap (λ n. gathered h start moved ++ frame_of n r) a ∙ ap (λ o. gathered h start moved ++ frame_of ((start + moved) % 4096) o) (sym s) ∙ sym (gathered_more h start moved))
+  -- the frames with those of one more slot
+  pub gathered_next : (h : Items F) (start moved at : ℕ) (r : Option (Option F)) → at ≡ (start + moved) % 4096 → h moved ≡ r → gathered h start moved ++ frame_of at r ≡ gathered h start (moved + 1)
+  gathered_next h start moved at r a s =
+      ap (λ n. gathered h start moved ++ frame_of n r) a ∙ ap (λ o. gathered h start moved ++ frame_of ((start + moved) % 4096) o) (sym s) ∙ sym (gathered_more h start moved)
 
   -- how many are held after a slot is emptied
   pub held_less : (slots : List (Option (Option F))) (k : ℕ) (r new : Option (Option F)) → k < length slots → get_or slots k None ≡ r → new ≡ None → held_count (slice_set slots k new) + weight r ≡ held_count slots
@@ -144,8 +144,9 @@ module _ {F : Type 0} where
       by None e = refl
       by (Some x) e = absurd (omega (arith, e))
 
-  pub room_more : (slots : List (Option (Option F))) (k at most : ℕ) (r new : Option (Option F)) (out out2 : List (ℕ × F)) → k < length slots → get_or slots k None ≡ r → new ≡ None → out2 ≡ out ++ frame_of at r → length out + held_count slots ≤ most → length out2 + held_count (slice_set slots k new) ≤ most
-  room_more slots k at most r new out out2 lt here gone more room =
+  -- no more frames than slots that are emptied
+  pub few_more : (slots : List (Option (Option F))) (k at most : ℕ) (r new : Option (Option F)) (out out2 : List (ℕ × F)) → k < length slots → get_or slots k None ≡ r → new ≡ None → out2 ≡ out ++ frame_of at r → length out + held_count slots ≤ most → length out2 + held_count (slice_set slots k new) ≤ most
+  few_more slots k at most r new out out2 lt here gone more room =
       let one = held_set slots k new lt in
       let w : weight (get_or slots k None) ≡ weight r = ap weight here in
       let z : weight new ≡ 0 = ap weight gone in

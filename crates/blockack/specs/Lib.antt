@@ -4,5 +4,6 @@ pub mod Scoreboard
 pub mod Ring
 pub mod Reading
 pub mod Placed
+pub mod Sinks
 pub mod Calls
 pub mod Same

@@ -49,6 +49,11 @@ module _ {F : Type 0} where
   most_passed v number =
       cond (nat_lt 0 (ahead v.start number) && nat_lt (ahead v.start number) v.size) 0 (numbers_held v + 1)
 
+  -- data with this sequence number is wanted, and waits in the window: it passes nothing up
+  pub record IsWaiting (v : Reading F) (number : ℕ) : Type 0 where
+    pub wanted : IsWanted v number
+    pub none : most_passed v number ≡ 0
+
   -- the answer whether data would be taken is right for every window with this reading
   abbrev pub TellsWanted : Bool → Reading F → ℕ → Type 0
   TellsWanted answer v number = (window : Window F) → Reads window v → (IsTrue answer ↔ ((n : ℕ) × Brings window number n))

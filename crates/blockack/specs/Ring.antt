@@ -1,5 +1,5 @@
 -- The ring of 64 slots that holds a window: the slot of number n is n modulo 64.
-use Rattle.std.specs.Prelude.{◌≡◌, ℕ, zero, suc, ◌+◌, ◌-◌, ◌%◌, ◌<◌, ◌≤◌, nat_lt, cond, Option, None, List, [], ◌++◌, is_some, slice_index_or}
+use Rattle.std.specs.Prelude.{◌≡◌, ℕ, zero, suc, ◌+◌, ◌-◌, ◌%◌, ◌<◌, ◌≤◌, nat_lt, cond, Option, None, List, [], ◌++◌, length, is_some, slice_index_or}
 use Rattle.std.specs.List.{sum_by}
 use Rattle.blockack.specs.Window.{Items, with_item}
 use Rattle.blockack.specs.Passed.{frame_of}
@@ -30,8 +30,9 @@ module _ {F : Type 0} where
   abbrev pub stored : List (Option (Option F)) → ℕ → ℕ → Option F → Items F
   stored slots start number item = with_item (ring_at slots start) (ahead start number) item
 
-  -- the ring of a window: its first number isn't held, nor any after its last
+  -- the ring of a window has 64 slots: its first number isn't held, nor any after its last
   pub record IsSoundRing (slots : List (Option (Option F))) (start size : ℕ) : Type 0 where
+    pub long : length slots ≡ 64
     pub start_fits : start < 4096
     pub some_size : 1 ≤ size
     pub size_fits : size ≤ 64

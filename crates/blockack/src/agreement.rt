@@ -1,18 +1,20 @@
 //! A block acknowledgement agreement: its reorder window and its scoreboard.
-ghost use Rattle.std.specs.Prelude.{◌≡◌, ◌+◌, ◌<◌, ◌≤◌, ◌↔◌, IsTrue, true, Some, Option};
+ghost use Rattle.std.specs.Prelude.{◌≡◌, ◌+◌, ◌<◌, ◌≤◌, ◌↔◌, IsTrue, true, Some, Option, []};
 ghost use Rattle.arrayvec.specs.ArrayVec.{array_vec_len};
 ghost use Rattle.blockack.specs.Window.{opening};
 ghost use Rattle.blockack.specs.Scoreboard.{ReadsScoreboard, blank};
 ghost use Rattle.blockack.specs.Passed.{frame_of};
-ghost use Rattle.blockack.specs.Reading.{Reads, IsWanted, IsAlone, TellsWanted, DataMovesWindow, RequestMovesWindow, EndPassesUp};
+ghost use Rattle.blockack.specs.Reading.{Reads, IsWanted, IsWaiting, IsAlone, TellsWanted, DataMovesWindow, RequestMovesWindow, EndPassesUp};
 ghost use Rattle.blockack.specs.Reading.{numbers_held, most_passed};
 ghost use Rattle.blockack.specs.Reading.{DataMarksScoreboard, RequestMovesScoreboard};
 ghost use Rattle.blockack.specs.Placed.{is_taken, HandsBack};
+ghost use Rattle.blockack.specs.Sinks.{DataPassesTo};
 
 mod readings;
 
-use crate::ring::{HALF, NUMBERS, Slot, distance, empty_slots, skip, store};
+use crate::ring::{HALF, NUMBERS, Ring, distance};
 use crate::scoreboard::Bitmap;
+use crate::sink::Sink;
 use arrayvec::ArrayVec;
 use std::marker::Model;
 
@@ -33,11 +35,9 @@ pub enum Placed<F> {
 /// whole numbers with these readings.
 #[derive(Drop)]
 pub struct Agreement<F> {
-    slots: [Slot<F>; 64],
+    ring: Ring<F>,
     start: u16,
     size: u16,
-    /// How many slots are held.
-    count: u16,
     scoreboard: Bitmap,
 }
 
@@ -53,12 +53,12 @@ impl<F> Model for Agreement<F> {
     ghost view = { λ a. record {
       start = a.start;
       size = a.size;
-      held = map (ring_at a.slots a.start) (range_with_len 0 64);
+      held = map (ring_at a.ring.slots a.start) (range_with_len 0 64);
       scoreboard_start = a.scoreboard.start;
       scoreboard_bits = a.scoreboard.bits;
     } };
 
-    ghost invariant = { λ a. IsSoundRing a.slots a.start a.size × IsSoundBitmap a.size a.scoreboard.start a.scoreboard.bits × (a.count ≡ held_count a.slots) };
+    ghost invariant = { λ a. IsSoundRing a.ring.slots a.start a.size × IsSoundBitmap a.size a.scoreboard.start a.scoreboard.bits × (a.ring.count ≡ held_count a.ring.slots) };
 }
 
 impl<F: Drop> Agreement<F> {
@@ -72,11 +72,11 @@ impl<F: Drop> Agreement<F> {
         ensures scoreboard { ReadsScoreboard (blank start size) size result.scoreboard_start
             result.scoreboard_bits }
     {
+        let ring = Ring::new();
         Agreement {
-            slots: empty_slots(),
+            ring,
             start,
             size,
-            count: 0,
             scoreboard: Bitmap::new(start, size),
         }
     }
@@ -94,7 +94,7 @@ impl<F: Drop> Agreement<F> {
         if ahead >= self.size {
             return true;
         }
-        self.slots[(number % 64) as usize].is_none()
+        self.ring.is_free(number)
     }
 
     /// A bound on the frames that data with this sequence number passes up: 0 if it waits for an earlier number,
@@ -116,8 +116,7 @@ impl<F: Drop> Agreement<F> {
         requires { number < 4096 }
         ensures { IsTrue result ↔ IsAlone self.now number }
     {
-        number == self.start
-            && (self.count == 0 || self.slots[((number + 1) % 64) as usize].is_none())
+        number == self.start && (self.ring.count == 0 || self.ring.is_free(number + 1))
     }
 
     /// Data came (10.24.7.6.2) that is passed up at once and alone. The window doesn't store its item: the caller
@@ -133,6 +132,38 @@ impl<F: Drop> Agreement<F> {
         let size = self.size;
         self.scoreboard.on_data(size, number);
         self.start = (number + 1) % NUMBERS;
+    }
+
+    /// Data came (10.24.7.6.2) that waits for an earlier number: the window holds `item`, and passes nothing up. An item
+    /// `None`, a dropped frame, occupies its number. The scoreboard (10.24.7.3) marks the number, unless that is before
+    /// the scoreboard's window.
+    pub fn hold(&mut self, number: u16, item: Option<F>)
+        requires number_fits { number < 4096 }
+        requires waits { IsWaiting self.old number }
+        ensures size { self.new.size ≡ self.old.size }
+        ensures window { DataMovesWindow true number item self.old self.new [] }
+        ensures scoreboard { DataMarksScoreboard number self.old self.new }
+    {
+        let size = self.size;
+        self.scoreboard.on_data(size, number);
+        self.ring.put(number, item);
+    }
+
+    /// Wanted data came (10.24.7.6.2): takes `item` at `number`, and passes to `out` the frames that the window then
+    /// passes up, each with its sequence number. An item `None`, a dropped frame, occupies its number and is never
+    /// passed up. The scoreboard (10.24.7.3) marks the number, unless that is before the scoreboard's window.
+    pub fn pass_to<S: Sink<F>>(&mut self, number: u16, item: Option<F>, out: &mut S)
+        requires number_fits { number < 4096 }
+        requires wanted { IsWanted self.old number }
+        requires room { numbers_held self.old + 1 ≤ S.room out.old }
+        ensures size { self.new.size ≡ self.old.size }
+        ensures window { DataPassesTo S.receives number item self.old self.new out.old out.new }
+        ensures scoreboard { DataMarksScoreboard number self.old self.new }
+    {
+        let (start, size) = (self.start, self.size);
+        self.scoreboard.on_data(size, number);
+        let passed = self.ring.store(start, size, number, item, out);
+        self.start = (start + passed) % NUMBERS;
     }
 
     /// Data came (10.24.7.6.2): takes `item` at `number` if it is wanted, and puts into `out` the frames
@@ -155,21 +186,11 @@ impl<F: Drop> Agreement<F> {
         ensures scoreboard { DataMarksScoreboard number self.old self.new }
         ensures few { array_vec_len out.new ≤ most_passed self.old number }
     {
-        let wanted = self.wants(number);
-        self.scoreboard.on_data(self.size, number);
-        if !wanted {
+        if !self.wants(number) {
+            self.scoreboard.on_data(self.size, number);
             return Placed::Back(item);
         }
-        let passed = store(
-            &mut self.slots,
-            self.start,
-            self.size,
-            number,
-            item,
-            out,
-            &mut self.count,
-        );
-        self.start = (self.start + passed) % NUMBERS;
+        self.pass_to(number, item, out);
         Placed::Taken
     }
 
@@ -188,7 +209,7 @@ impl<F: Drop> Agreement<F> {
         if ahead >= HALF {
             return;
         }
-        let passed = skip(&mut self.slots, self.start, ahead, out, &mut self.count);
+        let passed = self.ring.skip(self.start, ahead, out);
         self.start = (self.start + passed) % NUMBERS;
     }
 
@@ -201,12 +222,11 @@ impl<F: Drop> Agreement<F> {
         ensures few { array_vec_len out.new ≤ numbers_held self }
     {
         let Agreement {
-            mut slots,
+            mut ring,
             start,
             size,
-            mut count,
             scoreboard: _,
         } = self;
-        let _passed = skip(&mut slots, start, size, out, &mut count);
+        let _passed = ring.skip(start, size, out);
     }
 }

@@ -1,9 +1,11 @@
 //! The ring of 64 slots for what the window holds.
-ghost use Rattle.std.specs.Prelude.{◌≡◌, ℕ, ◌+◌, ◌-◌, ◌%◌, ◌<◌, ◌≤◌, ◌++◌, None, length, slice_index_or};
+ghost use Rattle.std.specs.Prelude.{◌≡◌, ℕ, ◌+◌, ◌-◌, ◌%◌, ◌<◌, ◌≤◌, ◌↔◌, IsTrue, None, Some, length, slice_index_or, slice_set};
 ghost use Rattle.arrayvec.specs.ArrayVec.{array_vec_len};
 ghost use Rattle.blockack.specs.Window.{IsNextFree};
-ghost use Rattle.blockack.specs.Ring.{ring_at, held_count, gathered, ahead, stored, Shifts};
+ghost use Rattle.blockack.specs.Ring.{IsSoundRing, ring_at, held_count, gathered, ahead, stored, Shifts};
+ghost use Rattle.blockack.specs.Sinks.{ReceivesAll};
 
+use crate::sink::Sink;
 use arrayvec::ArrayVec;
 use std::array;
 
@@ -12,23 +14,6 @@ pub(crate) const NUMBERS: u16 = 4096;
 
 /// A number this far ahead, or further, is old (10.24.7.6.2 and 10.24.7.6.3).
 pub(crate) const HALF: u16 = 2048;
-
-/// What is held for a number: nothing, or its item, which is `None` if its verdict dropped the frame.
-pub(crate) type Slot<F> = Option<Option<F>>;
-
-/// A ring that holds nothing.
-pub(crate) fn empty_slots<F>() -> [Slot<F>; 64]
-    ensures { (i : ℕ) → slice_index_or result i None ≡ None }
-{
-    array::from_fn(|_| None)
-}
-
-/// Gives proofs that there are 64 slots; does nothing.
-pub(crate) fn whole<F>(slots: &[Slot<F>; 64])
-    ensures { length slots.now ≡ 64 }
-{
-    let _count = slots.len();
-}
 
 /// How far `number` is ahead of `start`, modulo 4096.
 pub(crate) fn distance(start: u16, number: u16) -> u16
@@ -39,102 +24,139 @@ pub(crate) fn distance(start: u16, number: u16) -> u16
     (number + NUMBERS - start) % NUMBERS
 }
 
-/// Empties the first `least` slots from `start` on, and then the slots up to the first empty one.
-/// Appends their frames to `out`, keeps `held` the number of held slots, and returns how many slots it passed.
-pub(crate) fn advance<F: Drop, A>(
-    slots: &mut [Slot<F>; 64],
-    start: u16,
-    least: u16,
-    out: &mut ArrayVec<(u16, F), 64, A>,
-    held: &mut u16,
-) -> u16
-    requires start_fits { start < 4096 }
-    requires least_fits { least < 4096 }
-    requires held { held.old ≡ held_count slots.old }
-    requires room { array_vec_len out.old + held_count slots.old ≤ 64 }
-    ensures next { IsNextFree (ring_at slots.old start) least result }
-    ensures rest { Shifts result (ring_at slots.old start)
-        (ring_at slots.new ((start + result) % 4096)) }
-    ensures frames { out.new.items ≡ out.old.items ++ gathered (ring_at slots.old start) start
-        result }
-    ensures held { held.new ≡ held_count slots.new }
-    ensures room { array_vec_len out.new + held_count slots.new ≤ array_vec_len out.old + held_count
-        slots.old }
-{
-    let mut moved = 0;
-    let mut at = start;
-    while moved < least || slots[(at % 64) as usize].is_some() {
-        let slot = &mut slots[(at % 64) as usize];
-        match slot.take() {
-            Some(Some(frame)) => {
-                *held -= 1;
-                out.push((at, frame));
-            }
-            Some(None) => *held -= 1,
-            None => {}
+/// What is held for a number: nothing, or its item, which is `None` if its verdict dropped the frame.
+pub(crate) type Slot<F> = Option<Option<F>>;
+
+/// The slot of each number modulo 64, and how many of them are held.
+#[derive(Drop)]
+pub(crate) struct Ring<F> {
+    pub(crate) slots: [Slot<F>; 64],
+    pub(crate) count: u16,
+}
+
+impl<F> Ring<F> {
+    /// A ring that holds nothing.
+    pub(crate) fn new() -> Self
+        ensures slots { (i : ℕ) → slice_index_or result.slots i None ≡ None }
+        ensures long { length result.slots ≡ 64 }
+        ensures count { result.count ≡ 0 }
+    {
+        Ring {
+            slots: array::from_fn(|_| None),
+            count: 0,
         }
-        at = (at + 1) % NUMBERS;
-        moved += 1;
     }
-    moved
+
+    /// Whether nothing is held for `number`.
+    pub(crate) fn is_free(&self, number: u16) -> bool
+        ensures { IsTrue result ↔ slice_index_or self.now.slots (number % 64) None ≡ None }
+    {
+        self.slots[(number % 64) as usize].is_none()
+    }
 }
 
-/// As `advance`, if nothing was passed up before.
-pub(crate) fn skip<F: Drop, A>(
-    slots: &mut [Slot<F>; 64],
-    start: u16,
-    least: u16,
-    out: &mut ArrayVec<(u16, F), 64, A>,
-    held: &mut u16,
-) -> u16
-    requires start_fits { start < 4096 }
-    requires least_fits { least < 4096 }
-    requires held { held.old ≡ held_count slots.old }
-    requires empty { array_vec_len out.old ≡ 0 }
-    ensures next { IsNextFree (ring_at slots.old start) least result }
-    ensures rest { Shifts result (ring_at slots.old start)
-        (ring_at slots.new ((start + result) % 4096)) }
-    ensures frames { out.new.items ≡ gathered (ring_at slots.old start) start result }
-    ensures held { held.new ≡ held_count slots.new }
-    ensures of { length slots.old ≡ 64 }
-    ensures few { array_vec_len out.new ≤ held_count slots.old }
-{
-    advance(slots, start, least, out, held)
-}
+impl<F: Drop> Ring<F> {
+    /// Stores `item` for `number`, whose slot is empty.
+    pub(crate) fn put(&mut self, number: u16, item: Option<F>)
+        requires free { slice_index_or self.old.slots (number % 64) None ≡ None }
+        requires held { self.old.count ≡ held_count self.old.slots }
+        ensures slots { self.new.slots ≡ slice_set self.old.slots (number % 64) (Some item) }
+        ensures held { self.new.count ≡ held_count self.new.slots }
+        ensures more { held_count self.new.slots ≡ held_count self.old.slots + 1 }
+    {
+        self.slots[(number % 64) as usize] = Some(item);
+        self.count += 1;
+    }
 
-/// Stores `item` for `number`, moves the window as far as that needs, and then to the first missing number. Returns
-/// how many slots it passed.
-pub(crate) fn store<F: Drop, A>(
-    slots: &mut [Slot<F>; 64],
-    start: u16,
-    size: u16,
-    number: u16,
-    item: Option<F>,
-    out: &mut ArrayVec<(u16, F), 64, A>,
-    held: &mut u16,
-) -> u16
-    requires start_fits { start < 4096 }
-    requires number_fits { number < 4096 }
-    requires size_fits { size ≤ 64 }
-    requires some_size { 1 ≤ size }
-    requires near { ahead start number < 2048 }
-    requires front { ring_at slots.old start 0 ≡ None }
-    requires past { (i : ℕ) → size ≤ i → ring_at slots.old start i ≡ None }
-    requires free { ring_at slots.old start (ahead start number) ≡ None }
-    requires held { held.old ≡ held_count slots.old }
-    requires empty { array_vec_len out.old ≡ 0 }
-    ensures next { IsNextFree (stored slots.old start number item) (ahead start number + 1 - size)
-        result }
-    ensures rest { Shifts result (stored slots.old start number item)
-        (ring_at slots.new ((start + result) % 4096)) }
-    ensures frames { out.new.items ≡ gathered (stored slots.old start number item) start result }
-    ensures held { held.new ≡ held_count slots.new }
-    ensures of { length slots.old ≡ 64 }
-    ensures few { array_vec_len out.new ≤ held_count slots.old + 1 }
-{
-    let least = (distance(start, number) + 1).saturating_sub(size);
-    let passed = advance(slots, start, least, out, held);
-    slots[(number % 64) as usize] = Some(item);
-    *held += 1;
-    passed + advance(slots, (start + passed) % NUMBERS, 0, out, held)
+    /// Empties the first `least` slots from `start` on, and then the slots up to the first empty one.
+    /// Passes their frames to `out`, and returns how many slots it passed.
+    pub(crate) fn advance<S: Sink<F>>(&mut self, start: u16, least: u16, out: &mut S) -> u16
+        requires start_fits { start < 4096 }
+        requires least_fits { least < 4096 }
+        requires held { self.old.count ≡ held_count self.old.slots }
+        requires room { held_count self.old.slots ≤ S.room out.old }
+        ensures next { IsNextFree (ring_at self.old.slots start) least result }
+        ensures rest { Shifts result (ring_at self.old.slots start)
+            (ring_at self.new.slots ((start + result) % 4096)) }
+        ensures frames { ReceivesAll S.receives out.old (gathered (ring_at self.old.slots start)
+            start result) out.new }
+        ensures held { self.new.count ≡ held_count self.new.slots }
+        ensures room { held_count self.new.slots + S.room out.old ≤ S.room out.new + held_count
+            self.old.slots }
+        ensures few { length (gathered (ring_at self.old.slots start) start result) + held_count
+            self.new.slots ≤ held_count self.old.slots }
+        ensures long { length self.new.slots ≡ 64 }
+    {
+        let mut moved = 0;
+        let mut at = start;
+        while moved < least || self.slots[(at % 64) as usize].is_some() {
+            let slot = &mut self.slots[(at % 64) as usize];
+            match slot.take() {
+                Some(Some(frame)) => {
+                    self.count -= 1;
+                    out.receive(at, frame);
+                }
+                Some(None) => self.count -= 1,
+                None => {}
+            }
+            at = (at + 1) % NUMBERS;
+            moved += 1;
+        }
+        moved
+    }
+
+    /// As `advance`, into an empty list.
+    pub(crate) fn skip<A>(
+        &mut self,
+        start: u16,
+        least: u16,
+        out: &mut ArrayVec<(u16, F), 64, A>,
+    ) -> u16
+        requires start_fits { start < 4096 }
+        requires least_fits { least < 4096 }
+        requires held { self.old.count ≡ held_count self.old.slots }
+        requires empty { array_vec_len out.old ≡ 0 }
+        ensures next { IsNextFree (ring_at self.old.slots start) least result }
+        ensures rest { Shifts result (ring_at self.old.slots start)
+            (ring_at self.new.slots ((start + result) % 4096)) }
+        ensures frames { out.new.items ≡ gathered (ring_at self.old.slots start) start result }
+        ensures held { self.new.count ≡ held_count self.new.slots }
+        ensures long { length self.new.slots ≡ 64 }
+        ensures few { array_vec_len out.new ≤ held_count self.old.slots }
+    {
+        self.advance(start, least, out)
+    }
+
+    /// Stores `item` for `number`, moves the window as far as that needs, and then to the first missing
+    /// number. Returns how many slots it passed.
+    pub(crate) fn store<S: Sink<F>>(
+        &mut self,
+        start: u16,
+        size: u16,
+        number: u16,
+        item: Option<F>,
+        out: &mut S,
+    ) -> u16
+        requires number_fits { number < 4096 }
+        requires sound { IsSoundRing self.old.slots start size }
+        requires near { ahead start number < 2048 }
+        requires free { ring_at self.old.slots start (ahead start number) ≡ None }
+        requires held { self.old.count ≡ held_count self.old.slots }
+        requires room { held_count self.old.slots + 1 ≤ S.room out.old }
+        ensures next { IsNextFree (stored self.old.slots start number item)
+            (ahead start number + 1 - size) result }
+        ensures rest { Shifts result (stored self.old.slots start number item)
+            (ring_at self.new.slots ((start + result) % 4096)) }
+        ensures frames { ReceivesAll S.receives out.old (gathered
+            (stored self.old.slots start number item) start result) out.new }
+        ensures held { self.new.count ≡ held_count self.new.slots }
+        ensures long { length self.new.slots ≡ 64 }
+        ensures few { length (gathered (stored self.old.slots start number item) start result) ≤
+            held_count self.old.slots + 1 }
+    {
+        let least = (distance(start, number) + 1).saturating_sub(size);
+        let passed = self.advance(start, least, out);
+        self.put(number, item);
+        passed + self.advance((start + passed) % NUMBERS, 0, out)
+    }
 }

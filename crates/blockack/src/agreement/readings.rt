@@ -3,7 +3,6 @@ ghost use Rattle.std.specs.Prelude.{◌≡◌, ◌^◌, ◌<◌, ◌≤◌};
 ghost use Rattle.blockack.specs.Reading.{numbers_held};
 
 use super::Agreement;
-use crate::ring::whole;
 
 impl<F: Drop> Agreement<F> {
     /// The first sequence number of the window, modulo 4096.
@@ -28,8 +27,7 @@ impl<F: Drop> Agreement<F> {
         ensures is { result ≡ numbers_held self.now }
         ensures fits { result ≤ 64 }
     {
-        whole(&self.slots);
-        usize::from(self.count)
+        usize::from(self.ring.count)
     }
 
     /// What a BlockAck says (10.24.7.5): the scoreboard's first number modulo 4096, and a bit for each

@@ -1,4 +1,4 @@
-use Rattle.std.proofs.Common.{◌≡◌, ℕ, List, Option, None, sym, subst, arith}
+use Rattle.std.proofs.Common.{◌≡◌, ℕ, List, Option, None, sym, subst}
 use Rattle.std.specs.Prelude.{IsSomeAnd}
 use Rattle.assoc.specs.Standings.{standing}
 use Rattle.blockack.specs.Reading.{IsWanted}
@@ -33,7 +33,7 @@ on_wanted_data-requires-clause-under g c =
       kept = c.in-Some.entry.now;
       stands = subst (λ (a : List ℕ). Stands c.args.state.now.agreements.kept a c.args.tid c.in-Some.at c.in-Some.entry.now) c.sender-station.ensures c.in-Some.ensures;
       starts = c.start-start.ensures;
-      is = record { wanted = c.wants.ensures.0 c.if-wants.true; few = omega (arith, c.most_passed-most.ensures) };
+      is = record { wanted = c.wants.ensures.0 c.if-wants.true; bound = sym c.most_passed-most.ensures };
     }
 
 pub leave-requires-clause-inside : goal.leave-requires-clause-inside
