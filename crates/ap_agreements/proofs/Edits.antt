@@ -32,6 +32,15 @@ module _ (ks now : List Kept) (e : ks ≡ now) (rising : IsRising ks) (a : List 
   pub after_set : (y : Kept) → key_of y ≡ (a, tid) → Sets now a tid (Some y.using) (slice_set ks at y)
   after_set y f = subst (λ (l : List Kept). Sets l a tid (Some y.using) (slice_set ks at y)) e (replaced ks rising (a, tid) at inside y y f)
 
+  -- what is done to the agreement at the index is done to that of the station and TID
+  pub done_to : (P : Using → Using → Type 0) (x y : Kept) → x ≡ slice_index_or ks at x → key_of y ≡ key_of x → P x.using y.using →
+      (u : Using) → agreement_in now a tid ≡ Some u → (u2 : Using) × P u u2 × Sets now a tid (Some u2) (slice_set ks at y)
+  done_to P x y f k p u g = (
+    y.using,
+    subst (λ (v : Using). P v y.using) (was x f u g) p,
+    after_set y (k ∙ key_there x f),
+  )
+
   pub rises_set : (y : Kept) → key_of y ≡ (a, tid) → IsRising (slice_set ks at y)
   rises_set y f = rises_replaced ks rising (a, tid) at inside y y f
 
@@ -48,6 +57,10 @@ module _ (ks now : List Kept) (e : ks ≡ now) (rising : IsRising ks) (a : List 
 pub not_some : (o : Option Using) → o ≡ None → IsSome o → ⊥
 not_some None e h = absurd (cc)
 not_some (Some u) e h = absurd (cc)
+
+-- what holds of the agreement at an index holds of what is read there
+pub holds_of : (P : Kept → Type 0) (ks now : List Kept) → ks ≡ now → (at : ℕ) (x : Kept) → x ≡ slice_index_or ks at x → P (slice_index_or now at x) → P x
+holds_of P ks now e at x f p = subst P (sym (f ∙ ap (λ (l : List Kept). slice_index_or l at x) e)) p
 
 -- what was read at an index is there
 pub read_at : (ks now : List Kept) → ks ≡ now → (at : ℕ) → at < length now → (x : Kept) → x ≡ slice_index_or ks at x → (d : Kept) → x ≡ slice_index_or now at d

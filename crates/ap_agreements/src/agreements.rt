@@ -2,7 +2,7 @@
 
 ghost use Rattle.std.specs.Prelude.{◌≡◌, ◌+◌, ◌-◌, ◌^◌, ◌≤◌, ◌<◌, ◌↔◌, ℕ, min, List, true, false, IfOk, IfErr, OnOk, OnErr, MatchOption, IsSome, None, Some, [], All, AllPairs, Contains, count_by, map, filter, not, length, slice_index_or, vec_len, vec_capacity};
 ghost use Rattle.arrayvec.specs.ArrayVec.{array_vec_len};
-ghost use Rattle.blockack.specs.Reading.{IsWanted, IsWaiting, IsAlone, numbers_held, most_passed};
+ghost use Rattle.blockack.specs.Reading.{IsWanted, IsWaiting, IsAlone, numbers_held};
 ghost use Rattle.ap_model.specs.Steps.{IsBefore};
 ghost use Rattle.ap_model.specs.Readings.{Using};
 ghost use Rattle.ap_agreements.specs.Listing.{ListsAgreements, row_of};
@@ -104,30 +104,6 @@ impl Agreements {
         ensures { IfOk result (λ rows. ListsAgreements (agreement_in self.now.kept) rows.items) }
     {
         rows_of(alloc, &self.entries)
-    }
-
-    /// Data that the window of the agreement at this index wants came at this time. The window takes
-    /// its item, `None` if it was dropped.
-    pub fn take(
-        &mut self,
-        at: usize,
-        number: SequenceNumber,
-        item: Option<Held>,
-        clock: u64,
-        out: &mut Released,
-    )
-        requires inside { at < length self.old.kept }
-        requires wanted { (d : Kept) → IsWanted (slice_index_or self.old.kept at d).using.window
-            number }
-        requires empty { array_vec_len out.old ≡ 0 }
-        ensures uses { (a : List ℕ) (tid : ℕ) → IsPlaceOf self.old.kept (a, tid) at →
-            UsesData true self.old.kept a tid number item clock self.new.kept out.new.items }
-        ensures few { (d : Kept)
-            → array_vec_len out.new ≤ most_passed (slice_index_or self.old.kept at d).using.window number }
-        ensures numbers { All (λ p. p.0 < 4096) out.new.items }
-    {
-        let entry = &mut self.entries[at];
-        entry.take(number, item, clock, out);
     }
 
     /// Data that waits for an earlier number, in the window of the agreement at this index, came at

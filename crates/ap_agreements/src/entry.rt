@@ -11,7 +11,7 @@ use crate::in_force::AgreementInForce;
 use crate::key::Key;
 use ap_model::Held;
 use arrayvec::ArrayVec;
-use blockack::{Agreement, Placed, Sink, reading_law};
+use blockack::{Agreement, Placed, Sink};
 use mac_types::{Address, SequenceNumber, Tid};
 use std::alloc::{AllocError, Global};
 use std::cmp::Ordering;
@@ -150,30 +150,6 @@ impl Entry {
         self.timeout > 0 && clock.saturating_sub(self.last_use) >= u64::from(self.timeout)
     }
 
-    /// Wanted data came at this time. The window takes its item, `None` if it was dropped.
-    pub fn take(
-        &mut self,
-        number: SequenceNumber,
-        item: Option<Held>,
-        clock: u64,
-        out: &mut Released,
-    )
-        requires wanted { IsWanted self.old.using.window number }
-        requires empty { array_vec_len out.old ≡ 0 }
-        ensures key { key_of self.new ≡ key_of self.old }
-        ensures uses { DataUse true number item clock self.old.using self.new.using out.new.items }
-        ensures few { array_vec_len out.new ≤ most_passed self.old.using.window number }
-        ensures numbers { All (λ p. p.0 < 4096) out.new.items }
-    {
-        reading_law::<Held>();
-        self.last_use = clock;
-        let _start = self.window.start();
-        match self.window.on_data(number.number(), item, out) {
-            Placed::Taken => {}
-            Placed::Back(_) => unreachable!(),
-        }
-    }
-
     /// Data came at this time that is passed up at once, and nothing after it. The window doesn't hold
     /// it; the caller passes it up.
     pub fn pass_alone(&mut self, number: SequenceNumber, clock: u64)
@@ -222,7 +198,6 @@ impl Entry {
         ensures key { key_of self.new ≡ key_of self.old }
         ensures uses { DataUse false number None clock self.old.using self.new.using [] }
     {
-        reading_law::<Held>();
         self.last_use = clock;
         let mut none = Released::new();
         match self.window.on_data(number.number(), None, &mut none) {
@@ -239,7 +214,6 @@ impl Entry {
         ensures few { array_vec_len out.new ≤ numbers_held self.old.using.window }
         ensures numbers { All (λ p. p.0 < 4096) out.new.items }
     {
-        reading_law::<Held>();
         self.last_use = clock;
         let _start = self.window.start();
         self.window.on_bar(start.number(), out);
@@ -265,7 +239,6 @@ impl Entry {
         ensures few { array_vec_len out.new ≤ numbers_held self.using.window }
         ensures numbers { All (λ p. p.0 < 4096) out.new.items }
     {
-        reading_law::<Held>();
         let Entry {
             key: _,
             timeout: _,

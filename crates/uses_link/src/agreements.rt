@@ -130,8 +130,9 @@ fn held(rt: &impl Abort, alloc: Global) -> Held {
 /// The number is wanted, and comes: nothing is released.
 fn take_in(rt: &impl Abort, alloc: Global, entry: &mut Entry, of: SequenceNumber) {
     assert!(rt; entry.wants(of));
+    assert!(rt; entry.held() < 64);
     let mut out = Released::new();
-    entry.take(of, Some(held(rt, alloc)), 4, &mut out);
+    entry.pass_to(of, Some(held(rt, alloc)), 4, &mut out);
     counts(rt, out.len(), 0, "handed up");
 }
 
@@ -216,8 +217,9 @@ fn take(rt: &impl Abort, alloc: Global, agreements: &mut Agreements, last: u8, o
     let placed = agreements.get_placed(station(last), tid(rt, 0));
     let (at, entry) = placed.expect(rt, "an agreement");
     assert!(rt; entry.wants(wanted));
+    assert!(rt; entry.held() < 64);
     let mut out = Released::new();
-    agreements.take(at, wanted, Some(frame), 4, &mut out);
+    agreements.pass_to(at, wanted, Some(frame), 4, &mut out);
 }
 
 #[test]
