@@ -1,23 +1,37 @@
 //! Captures made by hand.
 
 use crate::same::same;
+use crate::told::joined;
 use capture::{CaptureFault, LeftOut, NewPacket, Packet, Side, read_capture, write_capture};
 use std::alloc::Global;
 use std::process::Abort;
-
-/// Concatenates parts of a file.
-fn joined(rt: &impl Abort, alloc: Global, parts: &[&[u8]]) -> Vec<u8> {
-    let mut file = Vec::new(alloc);
-    for part in parts {
-        file.extend_from_slice(part).expect(rt, "memory");
-    }
-    file
-}
 
 /// Fails if a file isn't read as these packets.
 fn reads(rt: &impl Abort, alloc: Global, file: &[u8], wanted: &[Packet<'_>]) {
     let packets = read_capture(alloc, file).ok().expect(rt, "a capture");
     same(rt, packets.as_slice(), wanted, "packets");
+}
+
+/// A section header with little-endian numbers, version 1.0 and no known length; then a little-endian interface of
+/// link type 105, named `a`, that captures 3 bytes of a packet, up to the resolution of its times.
+const BEGUN: &[u8] = &[
+    0x0a, 0x0d, 0x0d, 0x0a, 28, 0, 0, 0, 0x4d, 0x3c, 0x2b, 0x1a, 1, 0, 0, 0, 0xff, 0xff, 0xff,
+    0xff, 0xff, 0xff, 0xff, 0xff, 28, 0, 0, 0, 1, 0, 0, 0, 40, 0, 0, 0, 105, 0, 0, 0, 3, 0, 0, 0,
+    2, 0, 1, 0, b'a', 0, 0, 0, 9, 0, 1, 0,
+];
+
+/// The rest of the interface; a block of type 5, which isn't read; a packet of two bytes on interface 0, at time 2^32
+/// + 2 in its units; and a simple packet of three bytes.
+const ENDED: &[u8] = &[
+    0, 0, 0, 0, 0, 0, 0, 40, 0, 0, 0, 5, 0, 0, 0, 12, 0, 0, 0, 12, 0, 0, 0, 6, 0, 0, 0, 36, 0, 0,
+    0, 0, 0, 0, 0, 1, 0, 0, 0, 2, 0, 0, 0, 2, 0, 0, 0, 2, 0, 0, 0, 0xaa, 0xbb, 0, 0, 36, 0, 0, 0,
+    3, 0, 0, 0, 20, 0, 0, 0, 3, 0, 0, 0, 0xcc, 0xdd, 0xee, 0, 20, 0, 0, 0,
+];
+
+/// A section with an interface of this resolution, and two packets.
+fn section(rt: &impl Abort, alloc: Global, resolution: u8) -> Vec<u8> {
+    let resolution = [resolution];
+    joined(rt, alloc, &[BEGUN, &resolution, ENDED])
 }
 
 /// A header with big-endian numbers, nanoseconds and link type 127, and four packets with radiotap headers.
@@ -41,67 +55,35 @@ const RADIOTAP: &[&[u8]] = &[
     &[0, 0, 9, 0, 0, 0, 0, 0],
 ];
 
-/// A packet as it is read.
-fn packet(time: Option<u64>, frame: Result<&[u8], LeftOut>) -> Packet<'_> {
-    Packet { time, frame }
-}
-
-#[test]
-fn check_sequences_are_taken_off(rt: HostRuntime) {
-    let file = joined(&rt, rt.alloc(), RADIOTAP);
-    let time = Some(1_000_000_009);
-    let wanted = [
-        packet(time, Ok(&[0x48])),
-        packet(time, Ok(&[0x49])),
-        packet(time, Err(LeftOut::WrongCheckSequence)),
-        packet(time, Err(LeftOut::Radiotap)),
-    ];
-    reads(&rt, rt.alloc(), &file, &wanted);
-}
-
-/// A section header with little-endian numbers, version 1.0 and no known length.
-const LITTLE_SECTION: [u8; 28] = [
-    0x0a, 0x0d, 0x0d, 0x0a, 28, 0, 0, 0, 0x4d, 0x3c, 0x2b, 0x1a, 1, 0, 0, 0, 0xff, 0xff, 0xff,
-    0xff, 0xff, 0xff, 0xff, 0xff, 28, 0, 0, 0,
+const IN_RADIOTAP: &[Packet<'_>] = &[
+    Packet {
+        time: Some(1_000_000_009),
+        frame: Ok(&[0x48]),
+    },
+    Packet {
+        time: Some(1_000_000_009),
+        frame: Ok(&[0x49]),
+    },
+    Packet {
+        time: Some(1_000_000_009),
+        frame: Err(LeftOut::WrongCheckSequence),
+    },
+    Packet {
+        time: Some(1_000_000_009),
+        frame: Err(LeftOut::Radiotap),
+    },
 ];
 
-/// The same with big-endian numbers and version 1.2.
-const BIG_SECTION: [u8; 28] = [
-    0x0a, 0x0d, 0x0d, 0x0a, 0, 0, 0, 28, 0x1a, 0x2b, 0x3c, 0x4d, 0, 1, 0, 2, 0xff, 0xff, 0xff,
-    0xff, 0xff, 0xff, 0xff, 0xff, 0, 0, 0, 28,
-];
-
-/// A little-endian interface of link type 105, named `a`, that captures 3 bytes of a packet, with times of this
-/// resolution.
-fn interface(resolution: u8) -> [u8; 40] {
-    [
-        1, 0, 0, 0, 40, 0, 0, 0, 105, 0, 0, 0, 3, 0, 0, 0, 2, 0, 1, 0, b'a', 0, 0, 0, 9, 0, 1, 0,
-        resolution, 0, 0, 0, 0, 0, 0, 0, 40, 0, 0, 0,
-    ]
-}
-
-/// A little-endian packet of two bytes on interface 0, at time 2^32 + 2 in its units.
-const ENHANCED: [u8; 36] = [
-    6, 0, 0, 0, 36, 0, 0, 0, 0, 0, 0, 0, 1, 0, 0, 0, 2, 0, 0, 0, 2, 0, 0, 0, 2, 0, 0, 0, 0xaa,
-    0xbb, 0, 0, 36, 0, 0, 0,
-];
-
-/// A little-endian simple packet of three bytes.
-const SIMPLE: [u8; 20] = [
-    3, 0, 0, 0, 20, 0, 0, 0, 3, 0, 0, 0, 0xcc, 0xdd, 0xee, 0, 20, 0, 0, 0,
-];
-
-/// A section with an interface of this resolution, a block of type 5, which isn't read, and two packets.
-fn section(rt: &impl Abort, alloc: Global, resolution: u8) -> Vec<u8> {
-    let interface = interface(resolution);
-    let other = [5, 0, 0, 0, 12, 0, 0, 0, 12, 0, 0, 0];
-    let parts: [&[u8]; 5] = [&LITTLE_SECTION, &interface, &other, &ENHANCED, &SIMPLE];
-    joined(rt, alloc, &parts)
-}
-
-/// A section with an interface of link type 127 in microseconds, and a packet on it whose radiotap header is cut.
-const CUT_HEADER: &[&[u8]] = &[
-    &BIG_SECTION,
+/// Two sections. The second has big-endian numbers, version 1.2, an interface of link type 127 in microseconds, and a
+/// packet on it whose radiotap header is cut.
+const SECTIONS: &[&[u8]] = &[
+    BEGUN,
+    &[9],
+    ENDED,
+    &[
+        0x0a, 0x0d, 0x0d, 0x0a, 0, 0, 0, 28, 0x1a, 0x2b, 0x3c, 0x4d, 0, 1, 0, 2, 0xff, 0xff, 0xff,
+        0xff, 0xff, 0xff, 0xff, 0xff, 0, 0, 0, 28,
+    ],
     &[
         0, 0, 0, 1, 0, 0, 0, 20, 0, 127, 0, 0, 0, 0, 0, 0, 0, 0, 0, 20,
     ],
@@ -109,18 +91,31 @@ const CUT_HEADER: &[&[u8]] = &[
     &[0, 0, 0, 1, 0, 0, 0, 1, 0, 0, 0, 0, 0, 0, 0, 36],
 ];
 
+const IN_SECTIONS: &[Packet<'_>] = &[
+    Packet {
+        time: Some(4_294_967_298),
+        frame: Ok(&[0xaa, 0xbb]),
+    },
+    Packet {
+        time: None,
+        frame: Ok(&[0xcc, 0xdd, 0xee]),
+    },
+    Packet {
+        time: Some(7_000),
+        frame: Err(LeftOut::Radiotap),
+    },
+];
+
+#[test]
+fn check_sequences_are_taken_off(rt: HostRuntime) {
+    let file = joined(&rt, rt.alloc(), RADIOTAP);
+    reads(&rt, rt.alloc(), file.as_slice(), IN_RADIOTAP);
+}
+
 #[test]
 fn sections_are_read(rt: HostRuntime) {
-    let alloc = rt.alloc();
-    let mut file = section(&rt, alloc, 9);
-    let second = joined(&rt, alloc, CUT_HEADER);
-    file.extend_from_slice(&second).expect(&rt, "memory");
-    let wanted = [
-        packet(Some(4_294_967_298), Ok(&[0xaa, 0xbb])),
-        packet(None, Ok(&[0xcc, 0xdd, 0xee])),
-        packet(Some(7_000), Err(LeftOut::Radiotap)),
-    ];
-    reads(&rt, alloc, &file, &wanted);
+    let file = joined(&rt, rt.alloc(), SECTIONS);
+    reads(&rt, rt.alloc(), file.as_slice(), IN_SECTIONS);
 }
 
 /// Resolutions, and the time of the first packet in nanoseconds: the units are seconds, 100 ns, tenths of a
@@ -133,38 +128,53 @@ const RESOLUTIONS: &[(u8, u64)] = &[
     (0xbf, 0),
 ];
 
-/// The fault of a file; `None` if it is read.
-fn fault_of(alloc: Global, file: &[u8]) -> Option<CaptureFault> {
-    read_capture(alloc, file).err()
-}
-
 #[test]
 fn times_are_of_any_resolution(rt: HostRuntime) {
     let alloc = rt.alloc();
     for (resolution, time) in RESOLUTIONS {
         let file = section(&rt, alloc, *resolution);
         let wanted = [
-            packet(Some(*time), Ok(&[0xaa, 0xbb])),
-            packet(None, Ok(&[0xcc, 0xdd, 0xee])),
+            Packet {
+                time: Some(*time),
+                frame: Ok(&[0xaa, 0xbb]),
+            },
+            Packet {
+                time: None,
+                frame: Ok(&[0xcc, 0xdd, 0xee]),
+            },
         ];
-        reads(&rt, alloc, &file, &wanted);
+        reads(&rt, alloc, file.as_slice(), &wanted);
     }
-    for resolution in [20, 127, 0xc0, 0xff] {
-        let fault = fault_of(alloc, &section(&rt, alloc, resolution));
-        let wanted = CaptureFault::Resolution(resolution);
+}
+
+/// The fault of a file; `None` if it is read.
+fn fault_of(alloc: Global, file: &[u8]) -> Option<CaptureFault> {
+    read_capture(alloc, file).err()
+}
+
+/// Resolutions of which a second has more units than 64 bits can count.
+const UNKNOWN: &[u8] = &[20, 127, 0xc0, 0xff];
+
+#[test]
+fn unknown_resolutions_are_refused(rt: HostRuntime) {
+    let alloc = rt.alloc();
+    for resolution in UNKNOWN {
+        let file = section(&rt, alloc, *resolution);
+        let fault = fault_of(alloc, file.as_slice());
+        let wanted = CaptureFault::Resolution(*resolution);
         same(&rt, fault, Some(wanted), "the fault");
     }
 }
 
 /// Where each block of a section begins, and its end.
-const STARTS: [usize; 6] = [0, 28, 68, 80, 116, 136];
+const STARTS: &[usize] = &[0, 28, 68, 80, 116, 136];
 
 /// The fault of a section cut at this length: that of the cut block, or `None` between blocks.
 fn fault_of_cut(len: usize) -> Option<CaptureFault> {
     let mut last = 0;
     for start in STARTS {
-        if start <= len {
-            last = start;
+        if *start <= len {
+            last = *start;
         }
     }
     if last == len {
@@ -187,7 +197,9 @@ fn cut_blocks_are_refused(rt: HostRuntime) {
 #[test]
 fn a_written_capture_is_read(rt: HostRuntime) {
     let alloc = rt.alloc();
-    let long = vec![in alloc; 8u8; 262_145].ok().expect(&rt, "memory");
+    let long = [8u8].repeat(alloc, 262_145).expect(&rt, "memory");
+    let long = long.as_slice();
+    let rest = long.get(1..).unwrap_or(long);
     let packets = [
         NewPacket {
             side: Side::Out,
@@ -204,22 +216,34 @@ fn a_written_capture_is_read(rt: HostRuntime) {
         NewPacket {
             side: Side::In,
             time: 8,
-            bytes: &long,
+            bytes: long,
             comment: b"long",
         },
         NewPacket {
             side: Side::In,
             time: 9,
-            bytes: &long[1..],
-            comment: &long,
+            bytes: rest,
+            comment: long,
         },
     ];
     let file = write_capture(alloc, &packets).ok().expect(&rt, "memory");
     let wanted = [
-        packet(Some(u64::MAX), Ok(&[1, 2, 3])),
-        packet(Some(7), Err(LeftOut::LinkType(1))),
-        packet(Some(8), Err(LeftOut::Cut)),
-        packet(Some(9), Ok(&long[1..])),
+        Packet {
+            time: Some(u64::MAX),
+            frame: Ok(&[1, 2, 3]),
+        },
+        Packet {
+            time: Some(7),
+            frame: Err(LeftOut::LinkType(1)),
+        },
+        Packet {
+            time: Some(8),
+            frame: Err(LeftOut::Cut),
+        },
+        Packet {
+            time: Some(9),
+            frame: Ok(rest),
+        },
     ];
-    reads(&rt, alloc, &file, &wanted);
+    reads(&rt, alloc, file.as_slice(), &wanted);
 }

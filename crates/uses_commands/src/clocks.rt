@@ -1,28 +1,33 @@
-//! Time that passes by a clock: its ticks, agreements that end by themselves, and a thread that reads when asked.
+//! Time that passes by a clock: its ticks, agreements that end by themselves, with events beside frames and as JSON in
+//! their place, and a thread that reads when asked.
 
-use crate::lab::{ANSWERS, ASSOCIATION, AUTHENTICATION, LAB, file, joined};
-use crate::memory::{Memory, Outcome, lines_alone, words};
+use crate::lab::{Line, WORKERS, lined};
+use crate::live::Chunks;
+use crate::memory::{MANNER, lived, words};
 use crate::same::same;
-use apd_driver::{Arrival, Direct, Passing, Source, Timed};
+use crate::told::{ANY, Text, tells};
+use apd_driver::{Arrival, Direct, Form, Manner, Passing, Source, Style, Timed};
 use apd_files::FileFault;
-use apd_run::{Limits, OpenGate, RunWords, Streams, Supplies, live};
 use std::alloc::Global;
-use std::io::{self, Read};
+use std::io;
+use std::process::Abort;
 use std::sync::Wait;
 use std::sync::atomic::{AtomicU64, Ordering};
 use std::thread::Threads;
 use std::time::{Clock, Duration, Instant};
 
-/// A clock that shows this many microseconds.
+/// A clock that shows this many microseconds, and the number of lines on standard error.
 #[derive(Drop)]
-struct Hand {
-    micros: AtomicU64,
+pub struct Hand {
+    pub micros: AtomicU64,
+    pub lines: AtomicU64,
 }
 
 impl Hand {
-    fn at(micros: u64) -> Hand {
+    pub fn at(micros: u64) -> Hand {
         Hand {
             micros: AtomicU64::new(micros),
+            lines: AtomicU64::new(0),
         }
     }
 }
@@ -68,10 +73,13 @@ fn a_tick_is_what_was_not_told_before(rt: HostRuntime) {
     }
 }
 
-/// Gives texts, or nothing for a while, each when these units have passed by a clock.
+/// The lines that come, or none for a while, and the units that have passed then.
+type Step<'a> = (&'a [Line<'a>], u32);
+
+/// Gives texts, or nothing for a while, each when its units have passed by a clock.
 #[derive(Drop)]
-pub struct Steps<'a> {
-    steps: &'a [(&'a str, u32)],
+struct Steps<'a> {
+    steps: &'a [Step<'a>],
     done: usize,
     hand: Hand,
     passing: Option<Passing>,
@@ -79,7 +87,7 @@ pub struct Steps<'a> {
 
 impl<'a> Steps<'a> {
     /// Steps of which none was done, by a clock that shows 0.
-    pub fn new(steps: &'a [(&'a str, u32)]) -> Steps<'a> {
+    fn new(steps: &'a [Step<'a>]) -> Steps<'a> {
         let hand = Hand::at(0);
         let passing = match Instant::now(&hand) {
             Ok(begun) => Some(Passing::since(begun)),
@@ -108,14 +116,14 @@ impl Source for Steps<'_> {
     ghost clock = { λ s. since_if s.passing };
 
     fn next(&mut self, alloc: Global) -> Result<Arrival, FileFault> {
-        let Some((text, _)) = self.steps.get(self.done) else {
+        let Some((lines, _)) = self.steps.get(self.done) else {
             return Ok(Arrival::Bytes(Vec::new(alloc)));
         };
         self.done = self.done.saturating_add(1);
-        if text.is_empty() {
+        if lines.is_empty() {
             return Ok(Arrival::Nothing);
         }
-        match Vec::from_slice(alloc, text.as_bytes()) {
+        match lined(alloc, lines) {
             Ok(bytes) => Ok(Arrival::Bytes(bytes)),
             Err(_) => Err(FileFault::NoMemory),
         }
@@ -135,109 +143,141 @@ impl Source for Steps<'_> {
     fn end(self) {}
 }
 
-/// What becomes of an input with time.
-pub fn lived<R: Threads + Wait + Sync, S: Source + Drop>(
-    rt: &R,
-    alloc: Global,
-    input: S,
-    asked: RunWords<'_>,
-) -> Outcome {
-    let files = [
-        file("config", LAB),
-        file("-", ""),
-        file("drop.hex", "b700000001000000 9500000000000000\n"),
-    ];
-    let mut memory = Memory {
-        alloc,
-        files: &files,
-        left: b"",
+/// A style, the steps of an input, and what is printed.
+type Course = (&'static str, Style, &'static [Step<'static>], Text<'static>);
+
+/// Fails where an input, by one, two or eight workers, is answered otherwise.
+fn passes<R: Threads + Wait + Abort + Sync>(rt: &R, alloc: Global, course: &Course) {
+    let (what, style, steps, printed) = *course;
+    let manner = Manner {
+        strict: false,
+        form: Form {
+            style,
+            colours: false,
+        },
     };
-    let supplies = Supplies {
-        files: &mut memory,
-        limits: Limits::MOST,
-        gate: OpenGate,
-    };
-    let streams = Streams {
-        input,
-        out: lines_alone(Vec::new(alloc)),
-        typed: false,
-        shown: false,
-    };
-    let mut err = Vec::new(alloc);
-    let (page, status) = live(rt, alloc, asked, supplies, streams, &mut err);
-    Outcome {
-        out: page.lines,
-        err,
-        status,
+    for workers in WORKERS {
+        let words = words("lab", *workers, manner, false);
+        let told = lived(rt, alloc, words, Steps::new(steps));
+        tells(rt, alloc, told, (0, printed, ANY), what);
     }
 }
 
-/// A request for an agreement with a timeout of 10 units from number 100 on, and data 101, which it holds.
-pub const AGREED: &str =
-    "frame d000000002000000000102000000000a020000000001400003000702010a004006\n";
+/// An agreement that ends while nothing comes, data, a frame that is none, data that is dropped, and a station that
+/// leaves.
+const EVENTS: &[Step<'_>] = &[
+    (
+        &[
+            Line::Authentication,
+            Line::Association,
+            Line::Agreed,
+            Line::Held,
+        ],
+        0,
+    ),
+    (&[], 10),
+    (&[Line::Data], 0),
+    (&[Line::Text(b"frame 00\nload data drop.hex\n")], 0),
+    (&[Line::Data], 0),
+    (&[Line::Text(b"kick 02000000000a 3\n")], 0),
+];
 
-pub const HELD: &str = "frame 8801000002000000000102000000000a0200000000ff500600006c617465\n";
-
-const ENDED: &str = "3 send d000000002000000000a0200000000010200000000010000030107000002010a00\n\
-    0 up 02000000000a 0200000000ff 0 101 0 6c617465\n\
-    0 send d000000002000000000a0200000000010200000000010000030200002700\n";
+const COURSES: &[Course] = &[
+    (
+        "an agreement ends while nothing comes",
+        Style::Lines,
+        &[
+            (&[Line::Authentication, Line::Association, Line::Agreed], 0),
+            (&[Line::Held], 3),
+            (&[], 9),
+            (&[], 1),
+            (&[], 0),
+            (&[], 4294967295),
+            (&[Line::Text(b"counters\n")], 0),
+        ],
+        Text::Answered(
+            b"3 send d000000002000000000a0200000000010200000000010000030107000002010a00\n\
+            0 up 02000000000a 0200000000ff 0 101 0 6c617465\n\
+            0 send d000000002000000000a0200000000010200000000010000030200002700\n\
+            5 events 36 sent 4 up 1 dropped 0 notes 0\n\
+            total events 36 sent 4 up 1 dropped 0 notes 0\n",
+        ),
+    ),
+    (
+        "frames are followed by what they mean",
+        Style::Notices,
+        EVENTS,
+        Text::All(
+            b"1 send b000000002000000000a0200000000010200000000010000000002000000\n\
+            1 authenticated 02000000000a\n\
+            2 send 1000000002000000000a02000000000102000000000100000100000002c0010482848b96\n\
+            2 associated 02000000000a 2\n\
+            3 send d000000002000000000a0200000000010200000000010000030107000002010a00\n\
+            3 agreement 02000000000a 0 size 4\n\
+            0 up 02000000000a 0200000000ff 0 101 0 6c617465\n\
+            0 send d000000002000000000a0200000000010200000000010000030200002700\n\
+            0 ended 02000000000a 0 reason 39\n\
+            5 up 02000000000a 0200000000ff - 3 0 68656c6c6f\n\
+            6 note 50\n\
+            7 loaded 2\n\
+            8 drop 02000000000a 3\n\
+            9 send c000000002000000000a02000000000102000000000100000300\n\
+            9 left 02000000000a reason 3\n\
+            total events 16 sent 5 up 2 dropped 1 notes 1\n",
+        ),
+    ),
+    (
+        "outputs are objects",
+        Style::Json,
+        EVENTS,
+        Text::All(
+            b"{\"line\":1,\"event\":\"authenticated\",\"station\":\"02000000000a\"}\n\
+            {\"line\":2,\"event\":\"associated\",\"station\":\"02000000000a\",\"aid\":2}\n\
+            {\"line\":3,\"event\":\"agreement\",\"station\":\"02000000000a\",\"tid\":0,\"size\":4}\n\
+            {\"line\":0,\"event\":\"up\",\"source\":\"02000000000a\",\
+            \"destination\":\"0200000000ff\",\"tid\":0,\"number\":101,\"mark\":0,\
+            \"body\":\"6c617465\"}\n\
+            {\"line\":0,\"event\":\"ended\",\"station\":\"02000000000a\",\"tid\":0,\"reason\":39}\n\
+            {\"line\":5,\"event\":\"up\",\"source\":\"02000000000a\",\
+            \"destination\":\"0200000000ff\",\"tid\":null,\"number\":3,\"mark\":0,\
+            \"body\":\"68656c6c6f\"}\n\
+            {\"line\":6,\"event\":\"note\",\"number\":50}\n\
+            {\"line\":7,\"event\":\"loaded\",\"budget\":2}\n\
+            {\"line\":8,\"event\":\"drop\",\"station\":\"02000000000a\",\"number\":3}\n\
+            {\"line\":9,\"event\":\"left\",\"station\":\"02000000000a\",\"reason\":3}\n\
+            total events 16 sent 5 up 2 dropped 1 notes 1\n",
+        ),
+    ),
+];
 
 #[test]
-fn an_agreement_ends_while_nothing_comes(rt: HostRuntime) {
-    let alloc = rt.alloc();
-    let text = joined(&rt, alloc, &[AUTHENTICATION, ASSOCIATION, AGREED]);
-    let steps = [
-        (text.as_str(), 0),
-        (HELD, 3),
-        ("", 9),
-        ("", 1),
-        ("", 0),
-        ("", 4294967295),
-        ("counters\n", 0),
-    ];
-    let told = "5 events 36 sent 4 up 1 dropped 0 notes 0\n\
-        total events 36 sent 4 up 1 dropped 0 notes 0\n";
-    let printed = joined(&rt, alloc, &[ANSWERS, ENDED, told]);
-    for workers in [1u8, 2, 8] {
-        let input = Steps::new(&steps);
-        let outcome = lived(&rt, alloc, input, words(workers));
-        same(&rt, outcome.out.as_slice(), printed.as_bytes(), "the text");
-        same(&rt, outcome.status, 0, "the status");
+fn time_passes_while_nothing_comes(rt: HostRuntime) {
+    for course in COURSES {
+        passes(&rt, rt.alloc(), course);
     }
 }
 
 /// Gives a line a read, three times.
-#[derive(Drop)]
-struct Thrice {
-    reads: u64,
-}
-
-impl Read for Thrice {
-    fn read(&mut self, buf: &mut [u8]) -> io::Result<usize> {
-        let line = b"frme\n";
-        if self.reads == 3 || buf.len() < line.len() {
-            return Ok(0);
-        }
-        self.reads = self.reads.saturating_add(1);
-        buf[..line.len()].copy_from_slice(line);
-        Ok(line.len())
+fn three_lines() -> Chunks<'static> {
+    Chunks {
+        left: b"frme\nfrme\nfrme\n",
+        step: 5,
+        fails: false,
     }
 }
 
 #[test]
 fn a_thread_reads_the_same_lines(rt: HostRuntime) {
     let alloc = rt.alloc();
-    let direct = lived(
-        &rt,
-        alloc,
-        Direct {
-            input: Thrice { reads: 0 },
-        },
-        words(2),
-    );
+    let words = words("lab", 2, MANNER, false);
+    let input = Direct {
+        input: three_lines(),
+    };
+    let direct = lived(&rt, alloc, words, input);
     let hand = Hand::at(0);
-    let input = Timed::start(&rt, alloc, &hand, Thrice { reads: 0 }).expect(&rt, "a thread");
-    let timed = lived(&rt, alloc, input, words(2));
-    same(&rt, timed.out.as_slice(), direct.out.as_slice(), "the text");
-    same(&rt, timed.status, direct.status, "the status");
+    let input = Timed::start(&rt, alloc, &hand, three_lines()).expect(&rt, "a thread");
+    let timed = lived(&rt, alloc, words, input);
+    let out = direct.out.as_slice();
+    let wanted = (direct.status, Text::All(out), ANY);
+    tells(&rt, alloc, timed, wanted, "the same by a thread");
 }

@@ -1,19 +1,14 @@
 //! Faulty scripts and files, with which nothing runs.
 
-use crate::lab::{AUTHENTICATION, COUNTING, LAB, file, joined, prints};
-use crate::memory::{File, ran};
-use crate::same::{holds, same};
+use crate::lab::{Line, lined};
+use crate::memory::{MANNER, ran, words};
+use crate::told::Text::{All, Idle, Start};
+use crate::told::{File, Wanted, joined, tells};
+use apd_run::OpenGate;
 use std::alloc::Global;
 use std::process::Abort;
 use std::sync::Wait;
 use std::thread::Threads;
-
-/// What standard error says of faulty files, with which two workers run nothing.
-fn told<R: Threads + Wait + Abort + Sync>(rt: &R, alloc: Global, files: &[File<'_>]) -> Vec<u8> {
-    let ran = ran(rt, alloc, files, 2);
-    same(rt, (ran.out.len(), ran.status), (0, 2), "nothing is run");
-    ran.err
-}
 
 /// A malformed line of each kind, and the reason.
 const MALFORMED: &[(&str, &str)] = &[
@@ -77,76 +72,118 @@ const MALFORMED: &[(&str, &str)] = &[
     ),
 ];
 
+/// Fails if a script whose line 4 is this one runs, or is refused for another reason.
+fn refuses<R: Threads + Wait + Abort + Sync>(rt: &R, alloc: Global, line: &str, why: &str) {
+    let lines = [
+        Line::Authentication,
+        Line::Text(b"\n# nothing\n"),
+        Line::Text(line.as_bytes()),
+        Line::Text(b"\nwait\n"),
+    ];
+    let script = lined(alloc, &lines).expect(rt, "memory");
+    let files = [("script", script.as_slice())];
+    let words = words("counting", 2, MANNER, false);
+    let told = ran(rt, alloc, &files, words, OpenGate);
+    let before = b"apd: script: script line 4: ".as_slice();
+    let why = joined(rt, alloc, &[before, why.as_bytes(), b"\n"]);
+    tells(rt, alloc, told, (2, All(b""), All(why.as_slice())), line);
+}
+
 #[test]
 fn a_malformed_line_of_each_kind_refuses_its_script(rt: HostRuntime) {
-    let alloc = rt.alloc();
     for (line, why) in MALFORMED {
-        let parts = [AUTHENTICATION, "\n# nothing\n", *line, "\nwait\n"];
-        let script = joined(&rt, alloc, &parts);
-        let files = [file("config", COUNTING), file("script", script.as_str())];
-        let told = told(&rt, alloc, &files);
-        let wanted = joined(&rt, alloc, &["apd: script: script line 4: ", *why, "\n"]);
-        same(&rt, told.as_slice(), wanted.as_bytes(), line);
+        refuses(&rt, rt.alloc(), line, why);
     }
 }
 
-/// Texts that aren't scripts at all, and why.
-const NO_SCRIPTS: &[(&str, &str)] = &[
-    ("\u{feff}wait\n", "script line 1: a byte order mark"),
-    ("\n\r\r\n", "script line 2: a capture: see `apd frames`"),
+/// The path of a configuration, and files with which two workers run nothing, since a text is no script at all, or a
+/// file is missing or faulty; then an address of a group, with which a script runs.
+const FAULTY: &[(&str, &[File<'_>], Wanted<'_, '_>)] = &[
     (
-        "\u{7f}ELF\u{2}",
-        "script line 1: an object file, and no text",
+        "lab",
+        &[("script", b"\xef\xbb\xbfwait\n")],
+        (
+            2,
+            All(b""),
+            All(b"apd: script: script line 1: a byte order mark\n"),
+        ),
     ),
     (
-        "store 3 0 0 1",
-        "script line 1: map 3: the configuration has none",
+        "lab",
+        &[("script", b"\n\r\r\n")],
+        (
+            2,
+            All(b""),
+            All(b"apd: script: script line 2: a capture: see `apd frames`\n"),
+        ),
+    ),
+    (
+        "lab",
+        &[("script", b"\x7fELF\x02")],
+        (
+            2,
+            All(b""),
+            All(b"apd: script: script line 1: an object file, and no text\n"),
+        ),
+    ),
+    (
+        "lab",
+        &[("script", b"store 3 0 0 1")],
+        (
+            2,
+            All(b""),
+            All(b"apd: script: script line 1: map 3: the configuration has none\n"),
+        ),
+    ),
+    (
+        "config",
+        &[],
+        (
+            2,
+            All(b""),
+            All(b"apd: cannot read config: there is no such file\n"),
+        ),
+    ),
+    (
+        "lab",
+        &[],
+        (
+            2,
+            All(b""),
+            All(b"apd: cannot read script: there is no such file\n"),
+        ),
+    ),
+    // a configuration at fault comes before the script
+    (
+        "config",
+        &[("config", b"draw = 0\n")],
+        (2, All(b""), Start(b"apd: config: ")),
+    ),
+    (
+        "config",
+        &[
+            (
+                "config",
+                b"bssid = \"030000000001\"\nssid = \"lab\"\nrates = \"82\"\ndraw = 0\n",
+            ),
+            ("script", b""),
+        ],
+        (
+            0,
+            Idle(b""),
+            All(
+                b"apd: config: `bssid` is the address of a group, 03:00:00:00:00:01: \
+                no station can answer it\n",
+            ),
+        ),
     ),
 ];
 
 #[test]
-fn a_text_that_is_no_script_is_told_as_what_it_is(rt: HostRuntime) {
+fn files_at_fault_are_told_as_what_they_are(rt: HostRuntime) {
     let alloc = rt.alloc();
-    for (text, why) in NO_SCRIPTS {
-        let files = [file("config", LAB), file("script", text)];
-        let told = told(&rt, alloc, &files);
-        let wanted = joined(&rt, alloc, &["apd: script: ", *why, "\n"]);
-        same(&rt, told.as_slice(), wanted.as_bytes(), text);
+    for (config, files, wanted) in FAULTY {
+        let told = ran(&rt, alloc, files, words(config, 2, MANNER, false), OpenGate);
+        tells(&rt, alloc, told, *wanted, "a run of these files");
     }
-}
-
-#[test]
-fn the_address_of_a_group_is_told(rt: HostRuntime) {
-    let config = "bssid = \"030000000001\"\nssid = \"lab\"\nrates = \"82\"\ndraw = 0\n";
-    let files = [file("config", config), file("script", "")];
-    let ran = ran(&rt, rt.alloc(), &files, 1);
-    let wanted = b"apd: config: `bssid` is the address of a group, 03:00:00:00:00:01: \
-        no station can answer it\n"
-        .as_slice();
-    same(&rt, (ran.err.as_slice(), ran.status), (wanted, 0), "told");
-}
-
-#[test]
-fn a_file_of_a_load_that_is_not_there_is_unreadable(rt: HostRuntime) {
-    let script = "load data absent\nunload data\nadopt addba absent absent\n";
-    let files = [file("config", LAB), file("script", script)];
-    let printed = "1 unreadable\n3 unreadable\ntotal events 0 sent 0 up 0 dropped 0 notes 0\n";
-    prints(&rt, rt.alloc(), &files, &[printed], 0);
-}
-
-#[test]
-fn without_a_configuration_or_a_script_nothing_is_run(rt: HostRuntime) {
-    let alloc = rt.alloc();
-    let neither = told(&rt, alloc, &[]);
-    let wanted = b"apd: cannot read config: there is no such file\n".as_slice();
-    same(&rt, neither.as_slice(), wanted, "neither");
-    let one = told(&rt, alloc, &[file("config", LAB)]);
-    let wanted = b"apd: cannot read script: there is no such file\n".as_slice();
-    same(&rt, one.as_slice(), wanted, "no script");
-}
-
-#[test]
-fn a_configuration_at_fault_comes_before_the_script(rt: HostRuntime) {
-    let told = told(&rt, rt.alloc(), &[file("config", "draw = 0\n")]);
-    holds(&rt, told.starts_with(b"apd: config: "), "the configuration");
 }

@@ -1,34 +1,58 @@
 //! Watchers that are told of each event, and workers that run concurrently.
 
-use crate::lab::{ASSOCIATION, AUTHENTICATION, LAB, OTHER_AUTHENTICATION, file, joined};
-use crate::memory::watched;
+use crate::lab::{Line, lined};
+use crate::memory::{MANNER, ran, words};
 use crate::same::same;
 use apd_run::{Gate, Watcher};
+use std::alloc::Global;
+use std::process::Abort;
+use std::sync::Wait;
 use std::sync::atomic::{AtomicU64, Ordering};
 use std::thread;
+use std::thread::Threads;
 
-/// Adds up what it is told.
+/// How many iterations the first call waits at most.
+const TURNS: u64 = 1000000;
+
+/// Adds up what it is told. If `meets` is set, it holds call 1 until another has ended, and tells whether that was so.
 #[derive(Drop)]
 struct Sums {
     lines: AtomicU64,
     begun: AtomicU64,
     ended: AtomicU64,
+    met: AtomicU64,
+    meets: bool,
 }
 
 impl Sums {
-    /// The number of lines, and the sums of the calls that began and of those that ended.
-    fn told(&self) -> (u64, u64, u64) {
-        (
+    /// The number of lines, the sums of the calls that began and of those that ended, and whether two met.
+    fn told(&self) -> [u64; 4] {
+        [
             self.lines.load(Ordering::SeqCst),
             self.begun.load(Ordering::SeqCst),
             self.ended.load(Ordering::SeqCst),
-        )
+            self.met.load(Ordering::SeqCst),
+        ]
+    }
+
+    /// Waits until a call has ended, but not for ever.
+    fn meet(&self) {
+        for _ in 0..TURNS {
+            if self.ended.load(Ordering::SeqCst) != 0 {
+                self.met.store(1, Ordering::SeqCst);
+                return;
+            }
+            thread::yield_now();
+        }
     }
 }
 
 impl Gate for &Sums {
     fn begin(&self, call: u64) {
         self.begun.fetch_add(call, Ordering::SeqCst);
+        if self.meets && call == 1 {
+            self.meet();
+        }
     }
 
     fn end(&self, call: u64) {
@@ -42,78 +66,61 @@ impl Watcher for &Sums {
     }
 }
 
-/// The sum of the lines of the events below: lines 1, 2 and 5 concern one shard each, and all eight tell of the tick
+/// A script, whether its first two events are to meet, by how many workers it runs, and what is added up.
+type Row = (&'static [Line<'static>], bool, u8, [u64; 4]);
+
+/// Fails if a watcher is told anything else.
+fn adds_up<R: Threads + Wait + Abort + Sync>(rt: &R, alloc: Global, row: &Row) {
+    let (lines, meets, workers, wanted) = *row;
+    let script = lined(alloc, lines).expect(rt, "memory");
+    let files = [("script", script.as_slice())];
+    let sums = Sums {
+        lines: AtomicU64::new(0),
+        begun: AtomicU64::new(0),
+        ended: AtomicU64::new(0),
+        met: AtomicU64::new(0),
+        meets,
+    };
+    let told = ran(
+        rt,
+        alloc,
+        &files,
+        words("lab", workers, MANNER, false),
+        &sums,
+    );
+    same(rt, told.status, 0, "the status");
+    drop(told);
+    same(
+        rt,
+        sums.told(),
+        wanted,
+        "lines, calls and whether they meet",
+    );
+}
+
+/// The sum of the lines of its events is 40: lines 1, 2 and 5 concern one shard each, and all eight tell of the tick
 /// of line 4.
-const CALLS: u64 = 1 + 2 + 8 * 4 + 5;
+const LONG: &[Line<'_>] = &[
+    Line::Authentication,
+    Line::Association,
+    Line::Text(b"wait\ntick 1\nkick 02000000000a 1\nunload data\n# end\n"),
+];
+
+/// Events of two shards.
+const SHORT: &[Line<'_>] = &[Line::Authentication, Line::OtherAuthentication];
+
+const ROWS: &[Row] = &[
+    (LONG, false, 1, [6, 40, 40, 0]),
+    (LONG, false, 2, [6, 40, 40, 0]),
+    (LONG, false, 8, [6, 40, 40, 0]),
+    (SHORT, true, 1, [2, 3, 3, 0]),
+    (SHORT, true, 2, [2, 3, 3, 1]),
+    (SHORT, true, 8, [2, 3, 3, 1]),
+];
 
 #[test]
-fn a_watcher_is_told_of_each_event_by_its_line(rt: HostRuntime) {
-    let alloc = rt.alloc();
-    let end = "wait\ntick 1\nkick 02000000000a 1\nunload data\n# end\n";
-    let script = joined(&rt, alloc, &[AUTHENTICATION, ASSOCIATION, end]);
-    let files = [file("config", LAB), file("script", script.as_str())];
-    for workers in [1u8, 2, 8] {
-        let sums = Sums {
-            lines: AtomicU64::new(0),
-            begun: AtomicU64::new(0),
-            ended: AtomicU64::new(0),
-        };
-        let ran = watched(&rt, alloc, &files, workers, &sums);
-        same(&rt, ran.status, 0, "the status");
-        same(&rt, sums.told(), (6, CALLS, CALLS), "lines and calls");
-    }
-}
-
-/// How many iterations the first call waits at most.
-const TURNS: u64 = 1000000;
-
-/// Holds call 1 until call 2 has ended.
-#[derive(Drop)]
-struct Meeting {
-    ended: AtomicU64,
-    met: AtomicU64,
-}
-
-impl Gate for &Meeting {
-    fn begin(&self, call: u64) {
-        if call != 1 {
-            return;
-        }
-        for _ in 0..TURNS {
-            if self.ended.load(Ordering::SeqCst) != 0 {
-                self.met.store(1, Ordering::SeqCst);
-                return;
-            }
-            thread::yield_now();
-        }
-    }
-
-    fn end(&self, call: u64) {
-        if call == 2 {
-            self.ended.store(1, Ordering::SeqCst);
-        }
-    }
-}
-
-impl Watcher for &Meeting {}
-
-#[test]
-fn events_of_two_shards_run_beside_each_other(rt: HostRuntime) {
-    let alloc = rt.alloc();
-    let script = joined(&rt, alloc, &[AUTHENTICATION, OTHER_AUTHENTICATION]);
-    let files = [file("config", LAB), file("script", script.as_str())];
-    for (workers, met) in [(1u8, 0u64), (2, 1), (8, 1)] {
-        let meeting = Meeting {
-            ended: AtomicU64::new(0),
-            met: AtomicU64::new(0),
-        };
-        let ran = watched(&rt, alloc, &files, workers, &meeting);
-        same(&rt, ran.status, 0, "the status");
-        same(
-            &rt,
-            meeting.met.load(Ordering::SeqCst),
-            met,
-            "whether they meet",
-        );
+fn watchers_are_told_and_shards_run_beside_each_other(rt: HostRuntime) {
+    for row in ROWS {
+        adds_up(&rt, rt.alloc(), row);
     }
 }

@@ -1,6 +1,7 @@
 //! Whole scripts, well formed and malformed.
 
-use crate::same::{holds, same};
+use crate::same::same;
+use crate::told::joined;
 use apd_script::{Command, HexText, MapWord, Numbered, ScriptFault, read_script};
 use bpf_regions::{Hook, Scope, Shape, Shapes, WordWidth};
 use mac_types::{Address, Reason, Tid};
@@ -8,57 +9,33 @@ use std::alloc::Global;
 use std::process::Abort;
 
 /// Map 0 is shared, with 2 entries of 3 words; map 1 is a worker map with one word.
-fn shapes(rt: &impl Abort, alloc: Global) -> Shapes {
-    let shared = Shape {
+const SHAPES: &[Shape] = &[
+    Shape {
         entries: 2,
         words: 3,
         width: WordWidth::Eight,
         scope: Scope::Shared,
-    };
-    let own = Shape {
+    },
+    Shape {
         entries: 1,
         words: 1,
         width: WordWidth::Four,
         scope: Scope::Worker,
-    };
-    let shapes = [shared, own].to_vec(alloc).expect(rt, "memory");
+    },
+];
+
+/// These shapes.
+fn shapes(rt: &impl Abort, alloc: Global) -> Shapes {
+    let shapes = SHAPES.to_vec(alloc).expect(rt, "memory");
     Shapes::new(shapes).expect(rt, "maps within the limits")
 }
 
 /// The fault of a script; `None` if it is read.
 fn fault_of(rt: &impl Abort, alloc: Global, text: &[u8]) -> Option<ScriptFault> {
     let shapes = shapes(rt, alloc);
-    read_script(alloc, text, &shapes).err()
-}
-
-/// The word that a command begins with.
-fn name_of(command: &Command<'_>) -> &'static str {
-    match command {
-        Command::Frame(_) => "frame",
-        Command::Tick(_) => "tick",
-        Command::Kick { .. } => "kick",
-        Command::Close { .. } => "close",
-        Command::Load { .. } => "load",
-        Command::Unload(_) => "unload",
-        Command::Adopt { .. } => "adopt",
-        Command::Store { .. } => "store",
-        Command::Read(_) => "read",
-        Command::Sum(_) => "sum",
-        Command::Wait => "wait",
-    }
-}
-
-/// The commands of a script, each as its line's number and its word.
-fn shown(rt: &impl Abort, alloc: Global, text: &[u8]) -> String {
-    let shapes = shapes(rt, alloc);
-    let commands = read_script(alloc, text, &shapes).expect(rt, "a script");
-    let mut shown = String::new(alloc);
-    for numbered in &commands {
-        let name = name_of(&numbered.command);
-        let line = format!(in alloc; "{} {name};", numbered.line).expect(rt, "memory");
-        shown.push_str(line.as_str()).expect(rt, "memory");
-    }
-    shown
+    let fault = read_script(alloc, text, &shapes).err();
+    drop(shapes);
+    fault
 }
 
 /// Each command once, among comments, empty lines and spaces.
@@ -113,8 +90,8 @@ const AT_THE_HOOKS: [(u64, Command<'static>); 7] = [
 fn are_read(rt: &impl Abort, commands: &[Numbered<'_>], wanted: &[(u64, Command<'_>)]) {
     same(rt, commands.len(), wanted.len(), "commands");
     for (read, (line, command)) in commands.iter().zip(wanted) {
-        same(rt, read.line, *line, "the line");
-        holds(rt, read.command == *command, "the command");
+        let found = (read.line, read.command == *command);
+        same(rt, found, (*line, true), "the line, and its command");
     }
 }
 
@@ -177,9 +154,10 @@ const MALFORMED: &[&str] = &[
 
 #[test]
 fn malformed_lines_are_refused(rt: HostRuntime) {
+    let alloc = rt.alloc();
     for line in MALFORMED {
-        let text = format!(in rt.alloc(); "wait\n{line}\nwhat\n").expect(&rt, "memory");
-        let fault = fault_of(&rt, rt.alloc(), text.as_bytes());
+        let text = joined(&rt, alloc, &[b"wait\n", line.as_bytes(), b"\nwhat\n"]);
+        let fault = fault_of(&rt, alloc, text.as_slice());
         same(&rt, fault, Some(ScriptFault::Line(2)), line);
     }
 }
@@ -202,27 +180,72 @@ fn lines_are_text(rt: HostRuntime) {
     for (text, fault) in TEXTS {
         same(&rt, fault_of(&rt, rt.alloc(), text), *fault, "the fault");
     }
-    let text = format!(in rt.alloc(); "{}", ScriptFault::Line(12)).expect(&rt, "memory");
+    let text = ScriptFault::Line(12).to_string(rt.alloc());
+    let text = text.expect(&rt, "memory");
     same(&rt, text.as_str(), "script line 12", "its text");
 }
 
-/// Scripts, and their commands.
-const SCRIPTS: &[(&[u8], &str)] = &[
+/// Scripts, and the lines and words of their commands.
+const SCRIPTS: &[(&[u8], &[(u64, &str)])] = &[
     (
         b"frame b000000002000000000102000000000a0200000000011000000001000000\nframe 0000000002000000000102000000000a020000000001200001000a0000036c6162010482848b96\nwait\nload data mark.hex\nwait\nframe 0801000002000000000102000000000a0200000000ff300068656c6c6f\n",
-        "1 frame;2 frame;3 wait;4 load;5 wait;6 frame;",
+        &[
+            (1, "frame"),
+            (2, "frame"),
+            (3, "wait"),
+            (4, "load"),
+            (5, "wait"),
+            (6, "frame"),
+        ],
     ),
     (
         b"# two maps\nload addba no/such.hex\nstore 0 1 2 4294967296\n\ntick 65535\nwait\nread 0 1 2\nsum 1 0 0\nclose 2c122ecc33a0 0\nunload addba\nkick 2c122ecc33a0 1",
-        "2 load;3 store;5 tick;6 wait;7 read;8 sum;9 close;10 unload;11 kick;",
+        &[
+            (2, "load"),
+            (3, "store"),
+            (5, "tick"),
+            (6, "wait"),
+            (7, "read"),
+            (8, "sum"),
+            (9, "close"),
+            (10, "unload"),
+            (11, "kick"),
+        ],
     ),
 ];
+
+/// The word that a command begins with.
+fn name_of(command: &Command<'_>) -> &'static str {
+    match command {
+        Command::Frame(_) => "frame",
+        Command::Tick(_) => "tick",
+        Command::Kick { .. } => "kick",
+        Command::Close { .. } => "close",
+        Command::Load { .. } => "load",
+        Command::Unload(_) => "unload",
+        Command::Adopt { .. } => "adopt",
+        Command::Store { .. } => "store",
+        Command::Read(_) => "read",
+        Command::Sum(_) => "sum",
+        Command::Wait => "wait",
+    }
+}
+
+/// Fails if a script has other commands.
+fn are_named(rt: &impl Abort, alloc: Global, text: &[u8], wanted: &[(u64, &str)]) {
+    let shapes = shapes(rt, alloc);
+    let commands = read_script(alloc, text, &shapes).expect(rt, "a script");
+    same(rt, commands.len(), wanted.len(), "commands");
+    for (read, row) in commands.iter().zip(wanted) {
+        let found = (read.line, name_of(&read.command));
+        same(rt, found, *row, "a line's command");
+    }
+}
 
 #[test]
 fn whole_scripts_are_read(rt: HostRuntime) {
     for (text, wanted) in SCRIPTS {
-        let shown = shown(&rt, rt.alloc(), text);
-        same(&rt, shown.as_str(), wanted, "the commands");
+        are_named(&rt, rt.alloc(), text, wanted);
     }
 }
 
@@ -231,5 +254,6 @@ fn a_frame_is_its_bytes(rt: HostRuntime) {
     let text = HexText::new("00fFa0").expect(&rt, "hex digits");
     let bytes = text.bytes(rt.alloc()).expect(&rt, "memory");
     same(&rt, bytes.as_slice(), [0, 255, 160].as_slice(), "bytes");
-    holds(&rt, HexText::new("0").is_none(), "an odd number of digits");
+    let odd = HexText::new("0").is_none();
+    same(&rt, odd, true, "an odd number of digits");
 }

@@ -1,69 +1,236 @@
-//! Files of the greatest length and longer ones, files without an end, and faults in long files of hex digits.
+//! Files and frames of the greatest length and longer ones, files without an end, lack of memory, and writers that
+//! fail.
 
-use crate::same::{holds, same};
-use crate::told::{Told, answer, complains, repeated, tells};
-use apd_files::{FileFault, FileKind, Files};
+use crate::same::same;
+use crate::shelf::shelf;
+use crate::told::Text::{All, Start};
+use crate::told::{ANY, Row, Told, Wanted, answer, does, repeated, says, tells};
+use crate::writing::Narrow;
+use apd_files::{FileFault, Files};
+use apd_program::apd_main;
 use std::alloc::Global;
+use std::io::ErrorKind;
 use std::process::Abort;
-
-/// A program of two instructions.
-const ONE: &str = "b700000001000000\n9500000000000000\n";
-
-/// The same as assembler text.
-const TEXT: &str = "mov r0, 1\nexit\n";
-
-/// A configuration without maps.
-const CONFIG: &str = "bssid = \"020000000001\"\nssid = \"lab\"\nrates = \"82848b96\"\ndraw = 0\n";
 
 /// The most bytes of a block.
 const BLOCK: usize = 1 << 16;
 
-/// The file `long`, which ends in white space, a program and a directory, and how far the open one was read.
-#[derive(Drop)]
-struct Padded {
-    alloc: Global,
-    long: Vec<u8>,
-    is_long: bool,
-    place: usize,
+/// A text so many times and a text behind it, with spaces after them up to a size, which are the file `long`; in
+/// blocks of how many bytes it is read, and a command.
+type Long = (
+    &'static [u8],
+    usize,
+    &'static [u8],
+    usize,
+    usize,
+    Row<'static>,
+);
+
+/// Fails if a command with such a file does anything else.
+fn reads(rt: &impl Abort, alloc: Global, row: &Long) {
+    let (text, times, rest, size, step, asked) = *row;
+    let mut long = text.repeat(alloc, times).expect(rt, "memory");
+    long.extend_from_slice(rest).expect(rt, "memory");
+    let size = size.max(long.len());
+    long.resize(size, b' ').expect(rt, "memory");
+    let files = [("long", long.as_slice())];
+    says(rt, shelf(alloc, &files, step), &asked);
 }
 
-impl Padded {
-    /// The unread part of the open file.
-    fn rest(&self) -> &[u8] {
-        let bytes = if self.is_long {
-            self.long.as_slice()
-        } else {
-            ONE.as_bytes()
-        };
-        bytes.get(self.place..).unwrap_or(b"")
+/// A slot.
+const SLOT: &[u8] = b"b700000000000000\n";
+
+const VERIFY: &str = "apd verify data long";
+
+const CODED: &[Long] = &[
+    // code of 16385 slots is refused
+    (
+        SLOT,
+        16385,
+        b"",
+        0,
+        7,
+        (
+            "apd verify assoc long",
+            (
+                1,
+                All(b"fault 3 at 0\n"),
+                Start(b"apd: slot 0: the code is too long; "),
+            ),
+            b"",
+        ),
+    ),
+    // all digits of too long code are read
+    (
+        SLOT,
+        20000,
+        b"",
+        0,
+        BLOCK,
+        (VERIFY, (1, All(b"fault 3 at 0\n"), ANY), b""),
+    ),
+    (
+        SLOT,
+        20000,
+        b"b7",
+        0,
+        BLOCK,
+        (VERIFY, (1, All(b"fault 1 at 0\n"), ANY), b""),
+    ),
+    (
+        SLOT,
+        20000,
+        b"b7 g",
+        0,
+        BLOCK,
+        (
+            VERIFY,
+            (
+                2,
+                All(b""),
+                Start(b"apd: long: line 20001: `g` is no hex digit"),
+            ),
+            b"",
+        ),
+    ),
+    (
+        SLOT,
+        20000,
+        b"b",
+        0,
+        BLOCK,
+        (
+            VERIFY,
+            (
+                2,
+                All(b""),
+                All(b"apd: long: an odd number of hex digits\n"),
+            ),
+            b"",
+        ),
+    ),
+    // white space is no code
+    (
+        b"\n\t \r\n",
+        1,
+        b"",
+        70000,
+        BLOCK,
+        (VERIFY, (1, All(b"fault 2 at 0\n"), ANY), b""),
+    ),
+    // a directory is told
+    (
+        b"",
+        0,
+        b"",
+        0,
+        BLOCK,
+        (
+            "apd verify data folder",
+            (
+                2,
+                All(b""),
+                All(b"apd: cannot read folder: it is a directory\n"),
+            ),
+            b"",
+        ),
+    ),
+];
+
+#[test]
+fn code_of_any_length_is_read_to_its_end(rt: HostRuntime) {
+    for row in CODED {
+        reads(&rt, rt.alloc(), row);
     }
 }
 
-impl Files for Padded {
-    fn open(&mut self, path: &str) -> Result<(), FileFault> {
-        match path {
-            "long" => self.is_long = true,
-            "one" => self.is_long = false,
-            _ => return Err(FileFault::Directory),
-        }
-        self.place = 0;
-        Ok(())
-    }
+const TEXT: &[u8] = b"mov r0, 1\nexit\n";
 
-    fn next_block(&mut self) -> Result<Vec<u8>, FileFault> {
-        let rest = self.rest();
-        let (block, _) = rest.split_at(rest.len().min(BLOCK));
-        let block = Vec::from_slice(self.alloc, block).map_err(|_| FileFault::NoMemory)?;
-        self.place = self.place.saturating_add(block.len());
-        Ok(block)
+const CONFIG: &[u8] = b"bssid = \"020000000001\"\nssid = \"lab\"\nrates = \"82848b96\"\ndraw = 0\n";
+
+const SPACED: &[Long] = &[
+    // code of any length is read
+    (
+        b"b700000001000000\n9500000000000000\n",
+        1,
+        b"",
+        16777217,
+        BLOCK,
+        (VERIFY, (0, All(b"accepted budget 2\n"), ANY), b""),
+    ),
+    // texts of 16 mebibytes are read, and no longer ones
+    (
+        TEXT,
+        1,
+        b"",
+        16777216,
+        BLOCK,
+        (
+            "apd asm long",
+            (0, All(b"b700000001000000\n9500000000000000\n"), All(b"")),
+            b"",
+        ),
+    ),
+    (
+        TEXT,
+        1,
+        b"",
+        16777217,
+        BLOCK,
+        (
+            "apd asm long",
+            (
+                2,
+                All(b""),
+                All(b"apd: cannot read long: it has more than 16777216 bytes\n"),
+            ),
+            b"",
+        ),
+    ),
+    // configurations of a mebibyte are read, and no longer ones
+    (
+        CONFIG,
+        1,
+        b"",
+        1048576,
+        BLOCK,
+        (
+            "apd verify data one.hex --config long",
+            (0, All(b"accepted budget 2\n"), All(b"")),
+            b"",
+        ),
+    ),
+    (
+        CONFIG,
+        1,
+        b"",
+        1048577,
+        BLOCK,
+        (
+            "apd verify data one.hex --config long",
+            (
+                2,
+                All(b""),
+                All(b"apd: cannot read long: it has more than 1048576 bytes\n"),
+            ),
+            b"",
+        ),
+    ),
+];
+
+#[test]
+fn files_of_the_greatest_length_are_read(rt: HostRuntime) {
+    for row in SPACED {
+        reads(&rt, rt.alloc(), row);
     }
 }
 
-/// A file that repeats one byte without end, and the number of its blocks read.
+/// A file that repeats one byte without end, and the number of its blocks read. Without a byte there is no memory for a
+/// block.
 #[derive(Drop)]
 struct Endless {
     alloc: Global,
-    byte: u8,
+    byte: Option<u8>,
     blocks: u32,
 }
 
@@ -74,124 +241,119 @@ impl Files for Endless {
 
     fn next_block(&mut self) -> Result<Vec<u8>, FileFault> {
         self.blocks = self.blocks.saturating_add(1);
-        vec![in self.alloc; self.byte; BLOCK].map_err(|_| FileFault::NoMemory)
+        let Some(byte) = self.byte else {
+            return Err(FileFault::NoMemory);
+        };
+        match [byte].repeat(self.alloc, BLOCK) {
+            Ok(block) => return Ok(block),
+            Err(_) => return Err(FileFault::NoMemory),
+        }
     }
 }
 
-/// A text with spaces after it, up to this size, if it isn't longer.
-fn with_spaces(rt: &impl Abort, alloc: Global, text: &str, size: usize) -> Padded {
-    let mut long = Vec::from_slice(alloc, text.as_bytes()).expect(rt, "memory");
-    long.resize(size, b' ').expect(rt, "memory");
-    Padded {
-        alloc,
-        long,
-        is_long: false,
-        place: 0,
-    }
-}
+/// A byte, how many blocks are read, a command, and what is wanted.
+type Read = (Option<u8>, u32, &'static str, Wanted<'static, 'static>);
 
-/// Runs a command, with a file `long` of `size` bytes.
-fn answer_to(rt: &impl Abort, alloc: Global, words: &[&str], text: &str, size: usize) -> Told {
-    answer(alloc, words, &mut with_spaces(rt, alloc, text, size))
-}
-
-/// Fails unless a command reads a file of the greatest length, but none a byte longer.
-fn reads_at_most(rt: &impl Abort, alloc: Global, words: &[&str], text: &str, kind: FileKind) {
-    let most = kind.most() as usize;
-    let at = answer_to(rt, alloc, words, text, most);
-    same(rt, at.status, 0, "status");
-    holds(rt, at.err.is_empty() && !at.out.is_empty(), "done");
-    let past = answer_to(rt, alloc, words, text, most.saturating_add(1));
-    let why = format!(in alloc; "apd: cannot read long: it has more than {most} bytes\n");
-    tells(rt, &past, 2, "", why.expect(rt, "memory").as_str());
-}
-
-/// Verifies the file `long`.
-const VERIFY: [&str; 4] = ["apd", "verify", "data", "long"];
-
-#[test]
-fn reads_code_of_any_length(rt: HostRuntime) {
-    let told = answer_to(&rt, rt.alloc(), &VERIFY, ONE, (1 << 24) + 1);
-    same(&rt, told.status, 0, "status");
-    let accepted = b"accepted budget 2\n".as_slice();
-    same(&rt, told.out.as_slice(), accepted, "output");
-}
-
-/// Runs a command on a file that repeats this byte without end, and counts the blocks that are read.
-fn answer_without_end(alloc: Global, words: &[&str], byte: u8) -> (Told, u32) {
+/// Fails if a command reads more or less of such a file, or tells anything else.
+fn ends(rt: &impl Abort, alloc: Global, row: &Read) {
+    let (byte, blocks, line, wanted) = *row;
     let mut files = Endless {
         alloc,
         byte,
         blocks: 0,
     };
-    let told = answer(alloc, words, &mut files);
-    (told, files.blocks)
+    let told = answer(rt, alloc, line, &mut files);
+    tells(rt, alloc, told, wanted, "a file without end");
+    same(rt, files.blocks, blocks, "blocks");
 }
 
-#[test]
-fn ends_at_the_first_byte_that_is_no_digit(rt: HostRuntime) {
-    let words = ["apd", "verify", "data", "zero"];
-    let (told, blocks) = answer_without_end(rt.alloc(), &words, 0);
-    let why = "apd: zero: line 1: `\\x00` is no hex digit";
-    complains(&rt, &told, 2, "", why);
-    same(&rt, blocks, 1, "blocks");
-}
-
-#[test]
-fn ends_past_the_longest_text(rt: HostRuntime) {
-    let (told, blocks) = answer_without_end(rt.alloc(), &["apd", "asm", "text"], b' ');
-    let why = "apd: cannot read text: it has more than 16777216 bytes\n";
-    tells(&rt, &told, 2, "", why);
-    same(&rt, blocks, 257, "blocks");
-}
-
-#[test]
-fn reads_texts_of_16_mebibytes(rt: HostRuntime) {
-    let words = ["apd", "asm", "long"];
-    reads_at_most(&rt, rt.alloc(), &words, TEXT, FileKind::Text);
-}
-
-#[test]
-fn reads_configurations_of_a_mebibyte(rt: HostRuntime) {
-    let words = ["apd", "verify", "data", "one", "--config", "long"];
-    reads_at_most(&rt, rt.alloc(), &words, CONFIG, FileKind::Configuration);
-}
-
-#[test]
-fn tells_of_a_directory(rt: HostRuntime) {
-    let words = ["apd", "verify", "data", "folder"];
-    let told = answer_to(&rt, rt.alloc(), &words, "", 0);
-    let why = "apd: cannot read folder: it is a directory\n";
-    tells(&rt, &told, 2, "", why);
-}
-
-/// The result of `verify` for code that is too long, with a text after it.
-fn verifies_long(rt: &impl Abort, alloc: Global, rest: &str) -> Told {
-    let mut text = repeated(rt, alloc, "b700000000000000\n", 20000);
-    text.push_str(rest).expect(rt, "memory");
-    answer_to(rt, alloc, &VERIFY, text.as_str(), text.len())
-}
-
-/// What follows such code, the status, the output, and a prefix of the error.
-const BEHIND: &[(&str, u8, &str, &str)] = &[
-    ("", 1, "fault 3 at 0\n", ""),
-    ("b7", 1, "fault 1 at 0\n", ""),
-    ("b7 g", 2, "", "apd: long: line 20001: `g` is no hex digit"),
+const ENDLESS: &[Read] = &[
+    // a command ends at the first byte that is no digit
+    (
+        Some(0),
+        1,
+        "apd verify data zero",
+        (
+            2,
+            All(b""),
+            Start(b"apd: zero: line 1: `\\x00` is no hex digit"),
+        ),
+    ),
+    // it ends past the longest text
+    (
+        Some(b' '),
+        257,
+        "apd asm text",
+        (
+            2,
+            All(b""),
+            All(b"apd: cannot read text: it has more than 16777216 bytes\n"),
+        ),
+    ),
+    // lack of memory is told
+    (
+        None,
+        1,
+        "apd verify data one.hex",
+        (3, All(b""), All(b"apd: out of memory\n")),
+    ),
+    // without words it tells how it is used
+    (
+        None,
+        0,
+        "",
+        (2, All(b""), Start(b"A programmable 802.11 access point")),
+    ),
 ];
 
 #[test]
-fn reads_all_digits_of_too_long_code(rt: HostRuntime) {
-    for (rest, status, out, err) in BEHIND {
-        let told = verifies_long(&rt, rt.alloc(), rest);
-        complains(&rt, &told, *status, out, err);
+fn a_file_without_end_is_read_as_far_as_it_matters(rt: HostRuntime) {
+    for row in ENDLESS {
+        ends(&rt, rt.alloc(), row);
     }
-    let odd = verifies_long(&rt, rt.alloc(), "b");
-    let why = "apd: long: an odd number of hex digits\n";
-    tells(&rt, &odd, 2, "", why);
+}
+
+/// Fails if the program is traced otherwise on a frame of `size` bytes.
+fn traces(rt: &impl Abort, alloc: Global, size: usize, wanted: Wanted<'_, '_>) {
+    let digits = repeated(rt, alloc, "5a", size);
+    let parts = ["apd trace data one.hex", digits.as_str()];
+    let line = parts.join(alloc, " ").expect(rt, "memory");
+    does(rt, shelf(alloc, &[], 7), line.as_str(), wanted, b"");
 }
 
 #[test]
-fn takes_white_space_for_no_code(rt: HostRuntime) {
-    let told = answer_to(&rt, rt.alloc(), &VERIFY, "\n\t \r\n", 70000);
-    complains(&rt, &told, 1, "fault 2 at 0\n", "");
+fn traces_on_frames_of_at_most_2400_bytes(rt: HostRuntime) {
+    let alloc = rt.alloc();
+    traces(&rt, alloc, 2400, (0, ANY, All(b"")));
+    let why = b"apd: FRAME: more than 2400 bytes\n";
+    traces(&rt, alloc, 2401, (2, ANY, All(why)));
+}
+
+/// The result of `verify` if the output takes at most `room` bytes.
+fn verified_in(alloc: Global, room: usize) -> Told {
+    let mut out = Narrow::new(alloc, room, ErrorKind::StorageFull);
+    let mut err = Vec::new(alloc);
+    let words = ["apd", "verify", "data", "one.hex"];
+    let mut files = shelf(alloc, &[], 7);
+    let status = apd_main(alloc, &words, &mut files, &mut out, &mut err);
+    drop(files);
+    let out = out.taken;
+    Told { status, out, err }
+}
+
+#[test]
+fn leaves_a_beginning_where_a_write_fails(rt: HostRuntime) {
+    let alloc = rt.alloc();
+    let line = b"accepted budget 2\n".as_slice();
+    let why = b"apd: cannot write: no storage space\n".as_slice();
+    for room in 0..20usize {
+        let told = verified_in(alloc, room);
+        let begun = line.get(..room).unwrap_or(line);
+        let (status, err) = if room < 18 {
+            (2, why)
+        } else {
+            (0, b"".as_slice())
+        };
+        tells(&rt, alloc, told, (status, All(begun), All(err)), "a room");
+    }
 }

@@ -6,8 +6,6 @@
 #![tactic(auto)]
 
 #[cfg(test)]
-mod answers;
-#[cfg(test)]
 mod captures;
 #[cfg(test)]
 mod cases;
@@ -21,8 +19,6 @@ mod counted;
 mod echo;
 #[cfg(test)]
 mod evaluating;
-#[cfg(test)]
-mod events;
 #[cfg(test)]
 mod faults;
 #[cfg(test)]
@@ -54,7 +50,7 @@ mod same;
 #[cfg(test)]
 mod scripts;
 #[cfg(test)]
-mod telling;
+mod shelf;
 #[cfg(test)]
 mod told;
 #[cfg(test)]

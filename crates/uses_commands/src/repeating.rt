@@ -1,10 +1,10 @@
 //! How long a run takes, by a clock that shows what a test says.
 
-use crate::evaluating::{CAPTURE, judges};
 use crate::same::same;
+use crate::shelf::CAPTURE;
 use ap_model::{LinkConfig, Octets};
 use apd_eval::{Replay, Rounds, repeated_text};
-use bpf_decode::decode;
+use bpf_decode::{Program, decode};
 use bpf_regions::{Hook, Shapes};
 use bpf_verifier::verify;
 use capture::Recording;
@@ -36,39 +36,40 @@ impl Clock for Shown<'_> {
     }
 }
 
-/// The verdicts of a program that drops all data, with times by a clock that shows this.
-fn timed(rt: &impl Abort, alloc: Global, nanos: &[u64], count: u32, json: bool) -> String {
+/// A program that drops all data.
+fn dropping(rt: &impl Abort, alloc: Global) -> Program {
     let code = [0xb7, 0, 0, 0, 1, 0, 0, 0, 0x95, 0, 0, 0, 0, 0, 0, 0];
     let shapes = Shapes::new(Vec::new(alloc)).expect(rt, "no maps");
-    let program = decode(alloc, &code, shapes).ok().expect(rt, "a program");
-    let accepted = verify(alloc, program, Hook::Data)
-        .ok()
-        .expect(rt, "accepted");
-    let bytes = hex::decode(alloc, CAPTURE).ok().expect(rt, "bytes");
-    let recording = Recording::new(alloc, bytes.as_slice())
-        .ok()
-        .expect(rt, "a capture");
+    decode(alloc, &code, shapes).ok().expect(rt, "a program")
+}
+
+/// The access point of the capture.
+fn link(rt: &impl Abort, alloc: Global) -> LinkConfig {
     let ssid = Octets::copy(alloc, b"lab").expect(rt, "memory");
     let rates = Octets::copy(alloc, &[0x82, 0x84, 0x8b, 0x96]).expect(rt, "memory");
-    let link = LinkConfig::new(Address::new([2, 0, 0, 0, 0, 1]), ssid, rates).expect(rt, "a link");
+    LinkConfig::new(Address::new([2, 0, 0, 0, 0, 1]), ssid, rates).expect(rt, "a link")
+}
+
+/// The verdicts of that program, with times of so many rounds by this clock.
+fn timed(rt: &impl Abort, alloc: Global, clock: &Shown<'_>, count: u32, json: bool) -> String {
+    let program = dropping(rt, alloc);
+    let accepted = verify(alloc, program, Hook::Data).ok();
+    let recording = Recording::new(alloc, CAPTURE).ok();
+    let link = link(rt, alloc);
     let replay = Replay {
         link: &link,
         draw: 1,
-        recording,
+        recording: recording.expect(rt, "a capture"),
     };
-    let clock = Shown {
-        nanos,
-        readings: AtomicUsize::new(0),
-    };
-    let rounds = Rounds {
-        clock: &clock,
-        count,
-    };
-    repeated_text(alloc, accepted, replay, &rounds, json).expect(rt, "memory")
+    let rounds = Rounds { clock, count };
+    let accepted = accepted.expect(rt, "accepted");
+    let text = repeated_text(alloc, accepted, replay, &rounds, json);
+    drop(link);
+    text.expect(rt, "memory")
 }
 
 /// The table of that program's verdicts.
-const TABLE: &str = "packet  station            verdict       steps\n\
+const TABLE: &[u8] = b"packet  station            verdict       steps\n\
     3       02:00:00:00:00:0a  drop          2\n\
     4       02:00:00:00:00:0a  drop          2\n\
     5       02:00:00:00:00:0a  drop          2\n\
@@ -76,104 +77,68 @@ const TABLE: &str = "packet  station            verdict       steps\n\
     judged 4 of 6 packets: pass 0 (0 marked), drop 4; steps at most 2 of budget 2\n\
     not judged: 2 not data\n";
 
-/// What a clock shows, the number of rounds of four runs each, and the line below the table.
-const TIMES: &[(&[u64], u32, &str)] = &[
+/// What a clock shows, the number of rounds of four runs each, whether the text is JSON, and its end, which is below
+/// the table if it is none.
+const TIMES: &[(&[u64], u32, bool, &[u8])] = &[
     (
         &[0, 400, 1000, 1800, 2000, 2603, 3000, 3500],
         4,
-        "repeated 4 times: 100 ns a run at least, 125 ns in the median\n",
+        false,
+        b"repeated 4 times: 100 ns a run at least, 125 ns in the median\n",
     ),
     (
         &[7, 407, 1000, 1800, 2000, 2600],
         3,
-        "repeated 3 times: 100 ns a run at least, 150 ns in the median\n",
+        false,
+        b"repeated 3 times: 100 ns a run at least, 150 ns in the median\n",
     ),
     (
         &[18446744073709551615, 18446744073709551615],
         1,
-        "repeated 1 times: 0 ns a run at least, 0 ns in the median\n",
+        false,
+        b"repeated 1 times: 0 ns a run at least, 0 ns in the median\n",
     ),
     (
         &[500, 100],
         1,
-        "repeated 1 times: 0 ns a run at least, 0 ns in the median\n",
+        false,
+        b"repeated 1 times: 0 ns a run at least, 0 ns in the median\n",
     ),
     (
         &[0, 400, 1000],
         2,
-        "repeated 2 times: no clock tells how long a run takes\n",
+        false,
+        b"repeated 2 times: no clock tells how long a run takes\n",
+    ),
+    (
+        &[0, 400, 1000, 1800],
+        2,
+        true,
+        b"\n{\"repeats\":2,\"least\":100,\"median\":100}\n",
+    ),
+    (
+        &[],
+        2,
+        true,
+        b"\n{\"repeats\":2,\"least\":null,\"median\":null}\n",
     ),
 ];
 
+/// Fails if a text is more than the table and a line, or, as JSON, ends otherwise.
+fn ends(rt: &impl Abort, text: &[u8], json: bool, line: &[u8]) {
+    let (table, end) = text.split_at(text.len().saturating_sub(line.len()));
+    let wanted = if json { table } else { TABLE };
+    same(rt, (table, end), (wanted, line), "the table and the line");
+}
+
 #[test]
 fn the_least_and_the_median_are_told(rt: HostRuntime) {
-    let alloc = rt.alloc();
-    for (nanos, count, line) in TIMES {
-        let text = timed(&rt, alloc, nanos, *count, false);
-        let Some((table, rest)) = text.as_str().split_at_checked(TABLE.len()) else {
-            continue;
+    for (nanos, count, json, line) in TIMES {
+        let clock = Shown {
+            nanos,
+            readings: AtomicUsize::new(0),
         };
-        same(&rt, table, TABLE, "the table");
-        same(&rt, rest, *line, "the line");
+        let text = timed(&rt, rt.alloc(), &clock, *count, *json);
+        ends(&rt, text.as_bytes(), *json, line);
     }
-}
-
-#[test]
-fn the_last_line_of_json_has_the_figures(rt: HostRuntime) {
-    let alloc = rt.alloc();
-    let text = timed(&rt, alloc, &[0, 400, 1000, 1800], 2, true);
-    let last = text.as_str().lines().last();
-    same(
-        &rt,
-        last,
-        Some("{\"repeats\":2,\"least\":100,\"median\":100}"),
-        "the line",
-    );
-    let text = timed(&rt, alloc, &[], 2, true);
-    let last = text.as_str().lines().last();
-    same(
-        &rt,
-        last,
-        Some("{\"repeats\":2,\"least\":null,\"median\":null}"),
-        "the line",
-    );
-}
-
-#[test]
-fn a_table_without_rows_has_no_figures(rt: HostRuntime) {
-    let words = [
-        "apd",
-        "eval",
-        "data",
-        "voice.hex",
-        "voice.pcap",
-        "--config",
-        "other.toml",
-        "--repeat",
-        "5",
-    ];
-    let table = "packet  station            verdict       steps\n\
-        judged 0 of 6 packets: 2 not data, 4 to another address\n";
-    judges(&rt, rt.alloc(), &words, 0, table, "");
-}
-
-#[test]
-fn without_a_clock_there_are_no_figures(rt: HostRuntime) {
-    let words = [
-        "apd",
-        "eval",
-        "assoc",
-        "refuses.hex",
-        "voice.pcap",
-        "--config",
-        "lab.toml",
-        "--repeat",
-        "1000",
-    ];
-    let table = "packet  station            verdict       steps\n\
-        2       02:00:00:00:00:0a  refuse 37     2\n\
-        judged 1 of 6 packets: admit 0, refuse 1; steps at most 2 of budget 2\n\
-        not judged: 5 no association request\n\
-        repeated 1000 times: no clock tells how long a run takes\n";
-    judges(&rt, rt.alloc(), &words, 0, table, "");
 }

@@ -3,77 +3,20 @@
 ghost use Rattle.std.specs.Prelude.{◌≡◌, vec_len};
 
 use crate::echo::{Echo, Place, Places};
-use crate::same::same;
-use apd_driver::{Console, Form, Manner, Printing, Report, Script, Staff, Unrecorded, run_lines};
-use apd_files::{Unwritten, write_whole};
-use apd_script::{Numbered, read_script};
+use crate::lab::WORKERS;
+use crate::memory::{MANNER, STRICT, lines_alone, told_of};
+use crate::told::Text::Idle;
+use crate::told::{ANY, Told, joined, tells};
+use apd_driver::{Manner, Notes, Script, Staff, Terminal, run_lines};
+use apd_script::read_script;
 use bpf_regions::Shapes;
 use std::alloc::Global;
-use std::io;
-use std::io::Write;
 use std::process::Abort;
 use std::sync::{Arc, Mutex, Wait};
 use std::thread::Threads;
 
-/// Standard output in memory; messages are dropped.
-#[derive(Drop)]
-struct Page {
-    text: Vec<u8>,
-    manner: Manner,
-}
-
-impl Write for Page {
-    fn write(&mut self, buf: &[u8]) -> io::Result<usize> {
-        self.text.write(buf)
-    }
-
-    fn flush(&mut self) -> io::Result<()> {
-        Ok(())
-    }
-}
-
-impl Printing for Page {
-    ghost use Rattle.std.specs.Prelude.{None};
-
-    ghost recorded = { λ page. None };
-
-    fn print(&mut self, text: &[u8]) -> Result<(), Unwritten> {
-        write_whole(self, text)
-    }
-
-    fn flush_lines(&mut self) -> io::Result<()> {
-        Ok(())
-    }
-
-    fn record(
-        &mut self,
-        _commands: &[Numbered<'_>],
-        _reports: &[Report],
-    ) -> Result<(), Unrecorded> {
-        Ok(())
-    }
-}
-
-impl Console for Page {
-    ghost use Rattle.std.specs.Prelude.{true};
-
-    ghost manner = { λ page. page.manner };
-
-    ghost is_flushed = { λ page. true };
-
-    fn how(&self) -> Manner {
-        self.manner
-    }
-
-    fn flush_all(&mut self) -> io::Result<()> {
-        Ok(())
-    }
-
-    fn tell(&mut self, _commands: &[Numbered<'_>], _reports: &[Report]) {}
-}
-
 /// An operator and `workers` workers, with a place for each.
-fn staff(rt: &impl Abort, alloc: Global, workers: usize) -> Staff<Echo, Places>
+fn staff(rt: &impl Abort, alloc: Global, workers: u8) -> Staff<Echo, Places>
     ensures { vec_len result.workers ≡ result.operator.workers }
 {
     let mut places = Vec::new(alloc);
@@ -99,116 +42,133 @@ fn staff(rt: &impl Abort, alloc: Global, workers: usize) -> Staff<Echo, Places>
     }
 }
 
-/// Runs a script with `workers` workers; returns its output and status.
+/// Runs a script with `workers` workers.
 fn ran<R: Threads + Wait + Abort + Sync>(
     rt: &R,
     alloc: Global,
-    workers: usize,
-    script: &str,
-    strict: bool,
-) -> (Page, u8) {
+    workers: u8,
+    script: &[u8],
+    manner: Manner,
+) -> Told {
     let shapes = Shapes::new(Vec::new(alloc)).expect(rt, "no maps");
-    let commands = read_script(alloc, script.as_bytes(), &shapes).expect(rt, "a script");
-    let staff = staff(rt, alloc, workers);
-    let page = Page {
-        text: Vec::new(alloc),
-        manner: Manner {
-            strict,
-            form: Form::LINES,
-        },
+    let commands = read_script(alloc, script, &shapes).expect(rt, "a script");
+    let notes = Notes::new(alloc, "script", &shapes, false).expect(rt, "memory");
+    let mut err = Vec::new(alloc);
+    let page = Terminal {
+        out: lines_alone(Vec::new(alloc)),
+        err: &mut err,
+        notes,
+        manner,
+        prompts: false,
+        is_flushed: false,
+        reader_left: false,
     };
-    let commands = commands.as_slice();
-    run_lines(rt, alloc, staff, Script { commands }, page)
+    let staff = staff(rt, alloc, workers);
+    let lines = Script {
+        commands: commands.as_slice(),
+    };
+    let (page, status) = run_lines(rt, alloc, staff, lines, page);
+    let page = page.end();
+    told_of(page, err, status)
 }
 
-const SCRIPT: &str = "tick 10\ntick 0\ntick 30\nunload data\nwait\ntick 60\nload data absent\n";
+/// In which manner a script runs, its beginning, how many lines without effect follow, its end, by how many workers it
+/// runs, what is printed before the totals, and the status.
+type Row = (
+    Manner,
+    &'static [u8],
+    usize,
+    &'static [u8],
+    &'static [u8],
+    &'static [u8],
+    u8,
+);
 
-const PRINTED: &str = "1 memory\n3 memory\n4 memory\n6 memory\n7 unreadable\n\
-    total events 0 sent 0 up 0 dropped 0 notes 0\n";
-
-#[test]
-fn any_number_of_workers_prints_the_same(rt: HostRuntime) {
-    for workers in [1, 2, 8] {
-        let (page, status) = ran(&rt, rt.alloc(), workers, SCRIPT, false);
-        same(&rt, page.text.as_slice(), PRINTED.as_bytes(), "the text");
-        same(&rt, status, 3, "the status");
-    }
-}
-
-/// Scripts with a refused line in their first interval, what a strict run prints of each, and its status.
-const STRICT: &[(&str, &str, u8)] = &[
+const ROWS: &[Row] = &[
+    // any number of workers prints the same
     (
-        "load data absent\ntick 0\nload data absent\nwait\ntick 20\n",
-        "1 unreadable\n3 unreadable\ntotal events 0 sent 0 up 0 dropped 0 notes 0\n",
+        MANNER,
+        b"tick 10\ntick 0\ntick 30\nunload data\nwait\ntick 60\nload data absent\n",
+        0,
+        b"",
+        WORKERS,
+        b"1 memory\n3 memory\n4 memory\n6 memory\n7 unreadable\n",
+        3,
+    ),
+    // a strict run ends with the interval of a refused line
+    (
+        STRICT,
+        b"load data absent\ntick 0\nload data absent\nwait\ntick 20\n",
+        0,
+        b"",
+        WORKERS,
+        b"1 unreadable\n3 unreadable\n",
         1,
     ),
     (
-        "load data absent\ntick 10\nwait\ntick 20\n",
-        "1 unreadable\n2 memory\ntotal events 0 sent 0 up 0 dropped 0 notes 0\n",
+        STRICT,
+        b"load data absent\ntick 10\nwait\ntick 20\n",
+        0,
+        b"",
+        WORKERS,
+        b"1 unreadable\n2 memory\n",
         3,
     ),
     (
-        "tick 0\nwait\nload data absent\n",
-        "3 unreadable\ntotal events 0 sent 0 up 0 dropped 0 notes 0\n",
+        STRICT,
+        b"tick 0\nwait\nload data absent\n",
+        0,
+        b"",
+        WORKERS,
+        b"3 unreadable\n",
         1,
     ),
     (
-        "tick 10\nwait\ntick 20\n",
-        "1 memory\n3 memory\ntotal events 0 sent 0 up 0 dropped 0 notes 0\n",
+        STRICT,
+        b"tick 10\nwait\ntick 20\n",
+        0,
+        b"",
+        WORKERS,
+        b"1 memory\n3 memory\n",
+        3,
+    ),
+    // an interval has at most 4096 lines: a refused line, as many others as fill its interval, and a line that is
+    // refused in the next
+    (
+        STRICT,
+        b"load data absent\n",
+        4095,
+        b"tick 10\n",
+        &[2],
+        b"1 unreadable\n",
+        1,
+    ),
+    (
+        MANNER,
+        b"load data absent\n",
+        4095,
+        b"tick 10\n",
+        &[2],
+        b"1 unreadable\n4097 memory\n",
         3,
     ),
 ];
 
-/// Fails if a strict run of a script, by one, two or eight workers, prints something else, or has another status.
-fn prints_strictly<R: Threads + Wait + Abort + Sync>(
-    rt: &R,
-    alloc: Global,
-    script: &str,
-    printed: &str,
-    status: u8,
-) {
-    for workers in [1, 2, 8] {
-        let (page, ended) = ran(rt, alloc, workers, script, true);
-        same(rt, page.text.as_slice(), printed.as_bytes(), "the text");
-        same(rt, ended, status, "the status");
+/// Fails if a script prints something else, or has another status.
+fn prints<R: Threads + Wait + Abort + Sync>(rt: &R, alloc: Global, row: &Row) {
+    let (manner, first, count, last, workers, printed, status) = *row;
+    let kick = b"kick 02000000000a 8\n".as_slice();
+    let middle = kick.repeat(alloc, count).expect(rt, "memory");
+    let script = joined(rt, alloc, &[first, middle.as_slice(), last]);
+    for count in workers {
+        let told = ran(rt, alloc, *count, script.as_slice(), manner);
+        tells(rt, alloc, told, (status, Idle(printed), ANY), "a script");
     }
 }
 
 #[test]
-fn a_strict_run_ends_with_the_interval_of_a_refused_line(rt: HostRuntime) {
-    for (script, printed, status) in STRICT {
-        prints_strictly(&rt, rt.alloc(), script, printed, *status);
+fn any_number_of_workers_prints_the_same(rt: HostRuntime) {
+    for row in ROWS {
+        prints(&rt, rt.alloc(), row);
     }
-}
-
-/// A refused line, as many others as fill its interval, and a line that is refused in the next.
-fn an_interval_and_a_line(rt: &impl Abort, alloc: Global) -> String {
-    let mut script = String::from_str(alloc, "load data absent\n").expect(rt, "memory");
-    for _ in 1..4096 {
-        script
-            .push_str("kick 02000000000a 8\n")
-            .expect(rt, "memory");
-    }
-    script.push_str("tick 10\n").expect(rt, "memory");
-    script
-}
-
-#[test]
-fn an_interval_has_at_most_4096_lines(rt: HostRuntime) {
-    let alloc = rt.alloc();
-    let script = an_interval_and_a_line(&rt, alloc);
-    let totals = "total events 0 sent 0 up 0 dropped 0 notes 0\n";
-    let (page, status) = ran(&rt, alloc, 2, script.as_str(), true);
-    let strict = format!(in alloc; "1 unreadable\n{totals}").expect(&rt, "memory");
-    same(
-        &rt,
-        page.text.as_slice(),
-        strict.as_bytes(),
-        "the text of a strict run",
-    );
-    same(&rt, status, 1, "the status of a strict run");
-    let (page, status) = ran(&rt, alloc, 2, script.as_str(), false);
-    let whole = format!(in alloc; "1 unreadable\n4097 memory\n{totals}").expect(&rt, "memory");
-    same(&rt, page.text.as_slice(), whole.as_bytes(), "the text");
-    same(&rt, status, 3, "the status");
 }

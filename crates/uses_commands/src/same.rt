@@ -1,4 +1,4 @@
-//! Assertions as functions, which are proved once; a macro is proved again in each function.
+//! An assertion as a function, which is proved once; a macro is proved again in each function.
 
 use std::fmt::Debug;
 use std::process::Abort;
@@ -6,9 +6,4 @@ use std::process::Abort;
 /// Fails if what was found isn't what was wanted.
 pub fn same<T: PartialEq + Debug + Copy>(rt: &impl Abort, found: T, wanted: T, what: &str) {
     assert_eq!(rt; found, wanted, "{what}");
-}
-
-/// Fails if this doesn't hold.
-pub fn holds(rt: &impl Abort, is_so: bool, what: &str) {
-    assert!(rt; is_so, "{what}");
 }

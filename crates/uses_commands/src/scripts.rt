@@ -1,110 +1,184 @@
-//! Scripts that run with one, two and eight workers.
+//! Scripts that run with one, two and eight workers, and what runs tell on standard error of loads and stores.
 
-use crate::lab::{
-    ANSWERS, ASSOCIATION, AUTHENTICATION, COUNTING, LAB, OTHER_AUTHENTICATION, file, joined, prints,
+use crate::lab::Line::{
+    Association, Authentication, Data, OtherAssociation, OtherAuthentication, OtherData, Text,
 };
-use crate::memory::ran;
-use crate::same::{holds, same};
+use crate::lab::{MARKED, MARKING, WORKERS};
+use crate::memory::{MANNER, Run, STRICT, runs};
+use crate::told::ANY;
+use crate::told::Text::{All, Answered, End, Idle};
+
+const PRINTED: &[Run<'_>] = &[
+    // more workers than eight are eight
+    Run {
+        what: "a station is associated",
+        config: "lab",
+        script: &[Authentication, Association],
+        workers: &[1, 2, 8, 0, 9, 255],
+        manner: MANNER,
+        verbose: false,
+        wanted: (
+            0,
+            Answered(b"total events 2 sent 2 up 0 dropped 0 notes 0\n"),
+            ANY,
+        ),
+    },
+    Run {
+        what: "a policy that is loaded marks data",
+        config: "lab",
+        script: MARKING,
+        workers: WORKERS,
+        manner: MANNER,
+        verbose: false,
+        wanted: (0, Answered(MARKED), ANY),
+    },
+    Run {
+        what: "a count of each worker is summed",
+        config: "counting",
+        script: &[
+            Authentication,
+            OtherAuthentication,
+            Association,
+            OtherAssociation,
+            Text(b"load data count.hex\nwait\n"),
+            Data,
+            Data,
+            Data,
+            OtherData,
+            OtherData,
+            Text(b"wait\nsum 0 0 0\n"),
+        ],
+        workers: WORKERS,
+        manner: MANNER,
+        verbose: false,
+        wanted: (
+            0,
+            End(b"13 word 5\ntotal events 9 sent 4 up 5 dropped 0 notes 0\n"),
+            ANY,
+        ),
+    },
+    Run {
+        what: "a script of nothing ends with its total",
+        config: "lab",
+        script: &[],
+        workers: WORKERS,
+        manner: MANNER,
+        verbose: false,
+        wanted: (0, Idle(b""), ANY),
+    },
+    Run {
+        what: "a script of a wait ends with its total",
+        config: "lab",
+        script: &[Text(b"wait\n")],
+        workers: WORKERS,
+        manner: MANNER,
+        verbose: false,
+        wanted: (0, Idle(b""), ANY),
+    },
+    Run {
+        what: "a script of waits ends with its total",
+        config: "lab",
+        script: &[Text(b"# nothing\n\n  \nwait\nwait")],
+        workers: WORKERS,
+        manner: MANNER,
+        verbose: false,
+        wanted: (0, Idle(b""), ANY),
+    },
+    Run {
+        what: "a file of a load that is not there is unreadable",
+        config: "lab",
+        script: &[Text(b"load data absent\nunload data\nadopt addba absent absent\n")],
+        workers: WORKERS,
+        manner: MANNER,
+        verbose: false,
+        wanted: (0, Idle(b"1 unreadable\n3 unreadable\n"), ANY),
+    },
+];
 
 #[test]
-fn a_station_is_associated(rt: HostRuntime) {
-    let alloc = rt.alloc();
-    let script = joined(&rt, alloc, &[AUTHENTICATION, ASSOCIATION]);
-    let files = [file("config", LAB), file("script", script.as_str())];
-    let totals = "total events 2 sent 2 up 0 dropped 0 notes 0\n";
-    prints(&rt, alloc, &files, &[ANSWERS, totals], 0);
-}
-
-const LOADED: &str = "4 loaded 2\n";
-
-const MARKED: &str = "6 up 02000000000a 0200000000ff - 3 5 68656c6c6f\n";
-
-const DATA: &str = "frame 0801000002000000000102000000000a0200000000ff300068656c6c6f\n";
-
-const MARK: &str = "b700000002050000 9500000000000000\n";
-
-#[test]
-fn a_policy_that_is_loaded_marks_data(rt: HostRuntime) {
-    let alloc = rt.alloc();
-    let parts = [
-        AUTHENTICATION,
-        ASSOCIATION,
-        "wait\nload data mark.hex\nwait\n",
-        DATA,
-    ];
-    let script = joined(&rt, alloc, &parts);
-    let files = [
-        file("config", LAB),
-        file("script", script.as_str()),
-        file("mark.hex", MARK),
-    ];
-    let totals = "total events 3 sent 2 up 1 dropped 0 notes 0\n";
-    prints(&rt, alloc, &files, &[ANSWERS, LOADED, MARKED, totals], 0);
-}
-
-const OTHER_ASSOCIATION: &str = "frame 0000000002000000000102000000000b0200000000012000\
-    01000a0000036c6162010482848b96\n";
-
-const OTHER_DATA: &str = "frame 0801000002000000000102000000000b0200000000ff300068656c6c6f\n";
-
-const COUNT: &str = "1861000000000000 0000000000000000 b702000001000000 db21000000000000\n\
-    b700000000000000 9500000000000000\n";
-
-#[test]
-fn a_count_of_each_worker_is_summed(rt: HostRuntime) {
-    let alloc = rt.alloc();
-    let stations = [
-        AUTHENTICATION,
-        OTHER_AUTHENTICATION,
-        ASSOCIATION,
-        OTHER_ASSOCIATION,
-    ];
-    let stations = joined(&rt, alloc, &stations);
-    let load = "load data count.hex\nwait\n";
-    let sent = [
-        stations.as_str(),
-        load,
-        DATA,
-        DATA,
-        DATA,
-        OTHER_DATA,
-        OTHER_DATA,
-        "wait\nsum 0 0 0\n",
-    ];
-    let script = joined(&rt, alloc, &sent);
-    let files = [
-        file("config", COUNTING),
-        file("script", script.as_str()),
-        file("count.hex", COUNT),
-    ];
-    for workers in [1u8, 2, 8] {
-        let ran = ran(&rt, alloc, &files, workers);
-        let out = ran.out.as_slice();
-        let end = b"13 word 5\ntotal events 9 sent 4 up 5 dropped 0 notes 0\n";
-        holds(&rt, out.ends_with(end), "the sum");
-        same(&rt, ran.status, 0, "the status");
+fn scripts_run_with_any_number_of_workers(rt: HostRuntime) {
+    for row in PRINTED {
+        runs(&rt, rt.alloc(), row);
     }
 }
 
-#[test]
-fn more_workers_than_eight_are_eight(rt: HostRuntime) {
-    let alloc = rt.alloc();
-    let script = joined(&rt, alloc, &[AUTHENTICATION, ASSOCIATION]);
-    let files = [file("config", LAB), file("script", script.as_str())];
-    let eight = ran(&rt, alloc, &files, 8);
-    for workers in [0u8, 9, 255] {
-        let other = ran(&rt, alloc, &files, workers);
-        same(&rt, other.out.as_slice(), eight.out.as_slice(), "the text");
-        same(&rt, other.status, 0, "the status");
-    }
-}
+const TOLD: &[Run<'_>] = &[
+    Run {
+        what: "a refused load says what is in force",
+        config: "lab",
+        script: &[Text(
+            b"load data absent\nload data mark.hex\nwait\nload data exit.hex\n\
+            adopt assoc mark.hex exit.hex\nunload data\nadopt data exit.hex mark.hex\n",
+        )],
+        workers: &[2],
+        manner: MANNER,
+        verbose: false,
+        wanted: (
+            0,
+            ANY,
+            All(
+                b"apd: script:1: cannot read absent: there is no such file; \
+                data has no program: all data passes, with mark 0\n\
+                apd: script:4: exit.hex is not loaded; data keeps the program of line 2\n\
+                apd: script:5: mark.hex is not loaded; \
+                assoc has no program: each station is admitted\n\
+                apd: script:7: exit.hex is not loaded; \
+                data has no program: all data passes, with mark 0\n",
+            ),
+        ),
+    },
+    Run {
+        what: "a strict run says why it ends",
+        config: "lab",
+        script: &[Text(b"load addba exit.hex\nwait\nload data mark.hex\nload data exit.hex\n")],
+        workers: &[1],
+        manner: STRICT,
+        verbose: false,
+        wanted: (
+            1,
+            ANY,
+            All(
+                b"apd: script:1: exit.hex is not loaded; \
+                addba has no program: each agreement is granted\n\
+                apd: a line was refused, and the run ended with it (--strict)\n",
+            ),
+        ),
+    },
+    Run {
+        what: "all loads are told where it is asked for",
+        config: "lab",
+        script: &[Text(b"# mark\nload data mark.hex\n")],
+        workers: &[1],
+        manner: MANNER,
+        verbose: true,
+        wanted: (
+            0,
+            ANY,
+            All(
+                b"apd: script:2: data has mark.hex from now on: 2 slots, budget 2\n\
+                apd: script: assoc has no program: each station is admitted\n\
+                apd: script: addba has no program: each agreement is granted\n",
+            ),
+        ),
+    },
+    Run {
+        what: "a number that a map cuts is told",
+        config: "narrow",
+        script: &[Text(b"store 0 0 0 4294967297\nstore 0 0 0 4294967295\n")],
+        workers: &[1],
+        manner: MANNER,
+        verbose: false,
+        wanted: (
+            0,
+            ANY,
+            All(b"apd: script:1: map 0 has words of 4 bytes: of 4294967297 it keeps 1\n"),
+        ),
+    },
+];
 
 #[test]
-fn a_script_of_nothing_ends_with_its_total(rt: HostRuntime) {
-    let alloc = rt.alloc();
-    for script in ["", "wait\n", "# nothing\n\n  \nwait\nwait"] {
-        let files = [file("config", LAB), file("script", script)];
-        let totals = "total events 0 sent 0 up 0 dropped 0 notes 0\n";
-        prints(&rt, alloc, &files, &[totals], 0);
+fn runs_tell_of_loads_and_stores(rt: HostRuntime) {
+    for row in TOLD {
+        runs(&rt, rt.alloc(), row);
     }
 }

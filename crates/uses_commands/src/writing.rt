@@ -1,16 +1,34 @@
 //! Writers that take little, and what they were given.
 
-use crate::same::{holds, same};
-use apd_files::{Unwritten, write_whole};
+use crate::same::same;
+use apd_files::{Tape, Unwritten, write_whole};
+use std::alloc::Global;
 use std::io::{self, Error, ErrorKind, Write};
 
-/// Takes at most `step` bytes a write and `room` in all, and then fails.
+/// Takes at most `step` bytes a write and `room` in all, and then fails for the reason `full`. As a tape it opens,
+/// unless there is a reason why it isn't made.
 #[derive(Drop)]
 pub struct Narrow {
     pub taken: Vec<u8>,
     pub step: usize,
     pub room: usize,
     pub interrupts: u8,
+    pub full: ErrorKind,
+    pub unmade: Option<ErrorKind>,
+}
+
+impl Narrow {
+    /// A writer that takes `room` bytes, all at once.
+    pub fn new(alloc: Global, room: usize, full: ErrorKind) -> Narrow {
+        Narrow {
+            taken: Vec::new(alloc),
+            step: usize::MAX,
+            room,
+            interrupts: 0,
+            full,
+            unmade: None,
+        }
+    }
 }
 
 impl Write for Narrow {
@@ -21,7 +39,7 @@ impl Write for Narrow {
         }
         let count = buf.len().min(self.step).min(self.room);
         if count == 0 {
-            return Err(Error::from(ErrorKind::StorageFull));
+            return Err(Error::from(self.full));
         }
         self.taken.extend_from_slice(&buf[..count])?;
         self.room -= count;
@@ -33,24 +51,31 @@ impl Write for Narrow {
     }
 }
 
+impl Tape for Narrow {
+    fn open(&mut self) -> Result<(), Unwritten> {
+        match self.unmade {
+            Some(kind) => Err(Unwritten(kind)),
+            None => Ok(()),
+        }
+    }
+}
+
 #[test]
 fn takes_all_or_a_beginning(rt: HostRuntime) {
+    let full = ErrorKind::StorageFull;
     let text = b"accepted budget 2\n";
     for room in 0..20usize {
-        let mut writer = Narrow {
-            taken: Vec::new(rt.alloc()),
-            step: 3,
-            room,
-            interrupts: 2,
-        };
-        let written = write_whole(&mut writer, text);
+        let mut writer = Narrow::new(rt.alloc(), room, full);
+        writer.step = 3;
+        writer.interrupts = 2;
+        let answer = write_whole(&mut writer, text).err();
         let wanted = if room < 18 {
-            Err(Unwritten(ErrorKind::StorageFull))
+            Some(Unwritten(full))
         } else {
-            Ok(())
+            None
         };
-        holds(&rt, written == wanted, "the answer");
         let begun = text.get(..room.min(18)).unwrap_or(b"");
-        same(&rt, writer.taken.as_slice(), begun, "what is taken");
+        let found = (answer, writer.taken.as_slice());
+        same(&rt, found, (wanted, begun), "the answer, and what is taken");
     }
 }
