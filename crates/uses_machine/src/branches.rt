@@ -1,7 +1,7 @@
 //! Refinements of abstract numbers: what remains of both operands if a comparison holds, and if it doesn't.
 
-use crate::numbers::Known::{One, Within};
-use crate::numbers::{BYTE, FULL, Known, LARGE, MOST, NEAR_ZERO, OFFSET, SOME, number};
+use crate::numbers::Known::{Byte, Few, Full, Large, NearZero, Offset, One, Signed, Small, Within};
+use crate::numbers::{Known, number};
 use crate::same::same;
 use bpf_insn::Compare;
 use std::process::Abort;
@@ -9,142 +9,134 @@ use std::process::Abort;
 /// A number, a comparison, whether on 64 bits, whether it holds, the other number, and what remains of both.
 type Way = (Known, Compare, bool, bool, Known, Option<(Known, Known)>);
 
-fn are_refined(rt: &impl Abort, ways: &[Way]) {
-    for (a, compare, wide, taken, b, wanted) in ways {
-        let left = number(*a).branch(*compare, *wide, *taken, number(*b));
-        let wanted = match wanted {
-            Some((a, b)) => Some((number(*a), number(*b))),
-            None => None,
-        };
-        same(
-            rt,
-            (*compare, *wide, *taken, left),
-            (*compare, *wide, *taken, wanted),
-            "way",
-        );
-    }
+fn is_refined(rt: &impl Abort, way: &Way) {
+    let (a, compare, wide, taken, b, wanted) = way;
+    let left = number(a).branch(*compare, *wide, *taken, number(b));
+    let wanted = match wanted {
+        Some((a, b)) => Some((number(a), number(b))),
+        None => None,
+    };
+    same(
+        rt,
+        (*compare, *wide, *taken, left),
+        (*compare, *wide, *taken, wanted),
+        "way",
+    );
 }
 
-const EQUAL_AND_NOT: &[Way] = &[
-    (BYTE, Compare::Eq, true, true, LARGE, None),
+const WAYS: &[Way] = &[
+    // equal and not
+    (Byte, Compare::Eq, true, true, Large, None),
     (
-        BYTE,
+        Byte,
         Compare::Eq,
         true,
         true,
-        NEAR_ZERO,
-        Some((
-            Within((0, 3), (0, 3), (0, 3)),
-            Within((0, 3), (0, 3), (0, 3)),
-        )),
+        NearZero,
+        Some((Small((0, 3), (0, 3)), Small((0, 3), (0, 3)))),
     ),
     (
-        SOME,
+        Few,
         Compare::Eq,
         true,
         false,
         One(3),
-        Some((Within((4, 9), (0, 15), (4, 9)), One(3))),
+        Some((Small((4, 9), (0, 15)), One(3))),
     ),
     (
         One(9),
         Compare::Ne,
         true,
         true,
-        SOME,
-        Some((One(9), Within((3, 8), (0, 15), (3, 8)))),
+        Few,
+        Some((One(9), Small((3, 8), (0, 15)))),
     ),
     (
-        NEAR_ZERO,
+        NearZero,
         Compare::Ne,
         true,
         true,
         One(0xfffffffffffffffb),
-        Some((
-            Within((0, MOST), (0, MOST), (-4, 3)),
-            One(0xfffffffffffffffb),
-        )),
+        Some((Signed(-4, 3), One(0xfffffffffffffffb))),
     ),
-    (SOME, Compare::Ne, true, true, One(5), Some((SOME, One(5)))),
+    (Few, Compare::Ne, true, true, One(5), Some((Few, One(5)))),
     (
-        OFFSET,
+        Offset,
         Compare::Ne,
         true,
         false,
         One(8),
         Some((One(8), One(8))),
     ),
-    (SOME, Compare::Eq, false, true, BYTE, Some((SOME, SOME))),
-    (LARGE, Compare::Eq, false, true, BYTE, Some((LARGE, BYTE))),
+    (Few, Compare::Eq, false, true, Byte, Some((Few, Few))),
+    (Large, Compare::Eq, false, true, Byte, Some((Large, Byte))),
     (
-        SOME,
+        Few,
         Compare::Ne,
         false,
         true,
         One(3),
-        Some((Within((4, 9), (0, 15), (4, 9)), One(3))),
+        Some((Small((4, 9), (0, 15)), One(3))),
     ),
-];
-
-const UNSIGNED_ORDER: &[Way] = &[
+    // unsigned order
     (
-        SOME,
+        Few,
         Compare::Gt,
         true,
         true,
         One(5),
-        Some((Within((6, 9), (0, 15), (6, 9)), One(5))),
+        Some((Small((6, 9), (0, 15)), One(5))),
     ),
     (
-        SOME,
+        Few,
         Compare::Gt,
         true,
         false,
         One(5),
-        Some((Within((3, 5), (0, 7), (3, 5)), One(5))),
+        Some((Small((3, 5), (0, 7)), One(5))),
     ),
     (
-        BYTE,
+        Byte,
         Compare::Ge,
         true,
         true,
-        SOME,
-        Some((Within((3, 255), (0, 255), (3, 255)), SOME)),
+        Few,
+        Some((Small((3, 255), (0, 255)), Few)),
     ),
     (
-        FULL,
+        Full,
         Compare::Lt,
         true,
         true,
         One(8),
-        Some((Within((0, 7), (0, 7), (0, 7)), One(8))),
+        Some((Small((0, 7), (0, 7)), One(8))),
     ),
     (
-        OFFSET,
+        Offset,
         Compare::Lt,
         true,
         false,
-        SOME,
-        Some((Within((3, 56), (0, 56), (3, 56)), SOME)),
+        Few,
+        Some((Small((3, 56), (0, 56)), Few)),
     ),
     (
-        BYTE,
+        Byte,
         Compare::Le,
         true,
         true,
-        SOME,
-        Some((Within((0, 9), (0, 15), (0, 9)), SOME)),
+        Few,
+        Some((Small((0, 9), (0, 15)), Few)),
     ),
-    (SOME, Compare::Gt, true, true, One(9), None),
+    (Few, Compare::Gt, true, true, One(9), None),
     (
-        SOME,
+        Few,
         Compare::Gt,
         false,
         true,
         One(5),
-        Some((Within((6, 9), (0, 15), (6, 9)), One(5))),
+        Some((Small((6, 9), (0, 15)), One(5))),
     ),
-    (LARGE, Compare::Le, false, true, SOME, Some((LARGE, SOME))),
+    (Large, Compare::Le, false, true, Few, Some((Large, Few))),
     (One(5), Compare::Gt, true, true, One(5), None),
     (
         One(5),
@@ -154,41 +146,33 @@ const UNSIGNED_ORDER: &[Way] = &[
         One(5),
         Some((One(5), One(5))),
     ),
-];
-
-const SIGNED_ORDER: &[Way] = &[
+    // signed order
     (
-        NEAR_ZERO,
+        NearZero,
         Compare::Sgt,
         true,
         true,
         One(0xfffffffffffffffe),
-        Some((
-            Within((0, MOST), (0, MOST), (-1, 3)),
-            One(0xfffffffffffffffe),
-        )),
+        Some((Signed(-1, 3), One(0xfffffffffffffffe))),
     ),
     (
-        FULL,
+        Full,
         Compare::Sgt,
         true,
         false,
         One(3),
-        Some((Within((0, MOST), (0, MOST), (i64::MIN, 3)), One(3))),
+        Some((Signed(i64::MIN, 3), One(3))),
     ),
     (
-        FULL,
+        Full,
         Compare::Sge,
         true,
         true,
         One(0xfffffffffffffffc),
-        Some((
-            Within((0, MOST), (0, MOST), (-4, i64::MAX)),
-            One(0xfffffffffffffffc),
-        )),
+        Some((Signed(-4, i64::MAX), One(0xfffffffffffffffc))),
     ),
     (
-        FULL,
+        Full,
         Compare::Slt,
         true,
         true,
@@ -203,39 +187,36 @@ const SIGNED_ORDER: &[Way] = &[
         )),
     ),
     (
-        FULL,
+        Full,
         Compare::Slt,
         true,
         false,
         One(0xfffffffffffffffc),
-        Some((
-            Within((0, MOST), (0, MOST), (-4, i64::MAX)),
-            One(0xfffffffffffffffc),
-        )),
+        Some((Signed(-4, i64::MAX), One(0xfffffffffffffffc))),
     ),
     (
-        BYTE,
+        Byte,
         Compare::Sle,
         true,
         true,
-        SOME,
-        Some((Within((0, 9), (0, 15), (0, 9)), SOME)),
+        Few,
+        Some((Small((0, 9), (0, 15)), Few)),
     ),
     (
-        SOME,
+        Few,
         Compare::Sgt,
         false,
         true,
         One(5),
-        Some((Within((6, 9), (0, 15), (6, 9)), One(5))),
+        Some((Small((6, 9), (0, 15)), One(5))),
     ),
     (
-        SOME,
+        Few,
         Compare::Sgt,
         false,
         true,
         One(0x80000000),
-        Some((SOME, One(0x80000000))),
+        Some((Few, One(0x80000000))),
     ),
     (
         One(0xffffffff),
@@ -245,60 +226,58 @@ const SIGNED_ORDER: &[Way] = &[
         One(0),
         Some((One(0xffffffff), One(0))),
     ),
-];
-
-const BITS_SET: &[Way] = &[
+    // bits set
     (
-        OFFSET,
+        Offset,
         Compare::Set,
         true,
         true,
         One(8),
-        Some((Within((8, 56), (8, 48), (8, 56)), One(8))),
+        Some((Small((8, 56), (8, 48)), One(8))),
     ),
     (
-        OFFSET,
+        Offset,
         Compare::Set,
         true,
         false,
         One(24),
-        Some((Within((0, 32), (0, 32), (0, 32)), One(24))),
+        Some((Small((0, 32), (0, 32)), One(24))),
     ),
     (
-        OFFSET,
+        Offset,
         Compare::Set,
         true,
         true,
         One(24),
-        Some((OFFSET, One(24))),
+        Some((Offset, One(24))),
     ),
-    (OFFSET, Compare::Set, true, true, One(7), None),
+    (Offset, Compare::Set, true, true, One(7), None),
     (
-        SOME,
+        Few,
         Compare::Set,
         true,
         false,
         One(2),
-        Some((Within((3, 9), (0, 13), (3, 9)), One(2))),
+        Some((Small((3, 9), (0, 13)), One(2))),
     ),
     (
         One(4),
         Compare::Set,
         true,
         true,
-        SOME,
-        Some((One(4), Within((4, 9), (4, 11), (4, 9)))),
+        Few,
+        Some((One(4), Small((4, 9), (4, 11)))),
     ),
     (
-        BYTE,
+        Byte,
         Compare::Set,
         false,
         true,
         One(128),
-        Some((Within((128, 255), (128, 127), (128, 255)), One(128))),
+        Some((Small((128, 255), (128, 127)), One(128))),
     ),
     (
-        Within((9, 11), (8, 3), (9, 11)),
+        Small((9, 11), (8, 3)),
         Compare::Set,
         true,
         false,
@@ -309,8 +288,7 @@ const BITS_SET: &[Way] = &[
 
 #[test]
 fn comparisons_refine_both_sides(rt: HostRuntime) {
-    are_refined(&rt, EQUAL_AND_NOT);
-    are_refined(&rt, UNSIGNED_ORDER);
-    are_refined(&rt, SIGNED_ORDER);
-    are_refined(&rt, BITS_SET);
+    for way in WAYS {
+        is_refined(&rt, way);
+    }
 }

@@ -1,5 +1,6 @@
 //! Checks of one certificate of one entry.
 
+use crate::making::{answer_of, budget_of};
 use crate::same::same;
 use crate::small::{no_maps, small, with_byte};
 use bpf_cert::{check, check_within};
@@ -16,80 +17,80 @@ fn program(rt: &impl Abort, alloc: Global, number: u8) -> Program {
 
 /// The result of a check if R0 is `number`: a budget, or the number of a refusal.
 fn answered(rt: &impl Abort, alloc: Global, number: u8, hook: Hook, bytes: &[u8]) -> u32 {
-    match check(alloc, program(rt, alloc, number), hook, bytes) {
-        Ok(accepted) => accepted.budget(),
-        Err(fault) => u32::from(fault.number()),
-    }
+    answer_of(check(alloc, program(rt, alloc, number), hook, bytes))
 }
 
-/// The result for the certificate with another byte at a position.
-fn changed(rt: &impl Abort, alloc: Global, at: usize, byte: u8) -> u32 {
-    let bytes = with_byte(rt, alloc, at, byte);
-    answered(rt, alloc, 2, Hook::Data, &bytes)
+/// The number in R0, a hook, another byte at a position of the certificate, and the result.
+type Row = (u8, Hook, (usize, u8), u32);
+
+fn is_answered(rt: &impl Abort, alloc: Global, row: &Row) {
+    let (number, hook, (at, byte), answer) = row;
+    let bytes = with_byte(rt, alloc, *at, *byte);
+    let found = answered(rt, alloc, *number, *hook, &bytes);
+    drop(bytes);
+    same(
+        rt,
+        (*number, *at, *byte, found),
+        (*number, *at, *byte, *answer),
+        "answer",
+    );
 }
 
-#[test]
-fn a_certificate_is_for_one_code_and_one_hook(rt: HostRuntime) {
-    let alloc = rt.alloc();
-    let bytes = small(&rt, alloc);
+/// The certificate as it is.
+const WHOLE: (usize, u8) = (0, 0x41);
+
+const ROWS: &[Row] = &[
+    // it is for one code and one hook
+    (2, Hook::Data, WHOLE, 2),
+    (3, Hook::Data, WHOLE, 71),
+    (2, Hook::Addba, WHOLE, 71),
+    // another budget
+    (2, Hook::Data, (29, 3), 3),
+    (2, Hook::Data, (29, 1), 72),
+    // above 2^22
+    (2, Hook::Data, (32, 1), 72),
+    // the only entry is at the second slot, or after the code
+    (2, Hook::Data, (27, 1), 72),
+    (2, Hook::Data, (27, 2), 72),
+];
+
+/// Without its last byte the certificate is malformed.
+fn is_cut(rt: &impl Abort, alloc: Global) {
+    let bytes = small(rt, alloc);
     let cut = &bytes[..bytes.len().saturating_sub(1)];
-    same(
-        &rt,
-        answered(&rt, alloc, 2, Hook::Data, &bytes),
-        2,
-        "answer",
-    );
-    same(&rt, answered(&rt, alloc, 2, Hook::Data, cut), 70, "answer");
-    same(
-        &rt,
-        answered(&rt, alloc, 3, Hook::Data, &bytes),
-        71,
-        "answer",
-    );
-    same(
-        &rt,
-        answered(&rt, alloc, 2, Hook::Addba, &bytes),
-        71,
-        "answer",
-    );
+    let found = answered(rt, alloc, 2, Hook::Data, cut);
+    drop(bytes);
+    same(rt, found, 70, "answer");
 }
 
 /// The result of a check of the certificate within a limit of work.
 fn limited(rt: &impl Abort, alloc: Global, most: Option<u64>) -> u32 {
     let bytes = small(rt, alloc);
-    match check_within(alloc, program(rt, alloc, 2), Hook::Data, &bytes, most) {
-        Ok(accepted) => accepted.budget(),
+    let program = program(rt, alloc, 2);
+    match check_within(alloc, program, Hook::Data, &bytes, most) {
+        Ok(accepted) => budget_of(accepted),
         Err(fault) => u32::from(fault.number()),
     }
 }
 
-#[test]
-fn a_check_keeps_its_limit_of_work(rt: HostRuntime) {
-    // two states of 80 parts are examined, and none is compared
-    for (most, answer) in [
-        (None, 2),
-        (Some(0), 36),
-        (Some(159), 36),
-        (Some(160), 2),
-        (Some(u64::MAX), 2),
-    ] {
-        let found = limited(&rt, rt.alloc(), most);
-        same(&rt, (most, found), (most, answer), "answer");
-    }
-}
+/// Limits of work, and the results: two states of 80 parts are examined, and none is compared.
+const LIMITS: &[(Option<u64>, u32)] = &[
+    (None, 2),
+    (Some(0), 36),
+    (Some(159), 36),
+    (Some(160), 2),
+    (Some(u64::MAX), 2),
+];
 
 #[test]
-fn budgets_and_entries_are_checked(rt: HostRuntime) {
-    for (at, byte, answer) in [
-        (29, 3, 3),
-        (29, 1, 72),
-        // above 2^22
-        (32, 1, 72),
-        // the only entry is at the second slot, or after the code
-        (27, 1, 72),
-        (27, 2, 72),
-    ] {
-        let found = changed(&rt, rt.alloc(), at, byte);
-        same(&rt, (at, byte, found), (at, byte, answer), "answer");
+fn a_certificate_is_checked(rt: HostRuntime) {
+    let alloc = rt.alloc();
+    for row in ROWS {
+        is_answered(&rt, alloc, row);
+    }
+    is_cut(&rt, alloc);
+    for (most, answer) in LIMITS {
+        let found = limited(&rt, alloc, *most);
+        same(&rt, (*most, found), (*most, *answer), "answer");
     }
 }

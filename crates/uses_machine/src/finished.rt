@@ -1,7 +1,8 @@
 //! The finished states of a program of two slots.
 
+use crate::known::Val::{AnyNumber, FrameEnd, Unset};
+use crate::known::{Val, value};
 use crate::same::same;
-use bpf_absnum::AbsNum;
 use bpf_absstate::AbsState;
 use bpf_absval::AbsVal;
 use bpf_insn::Reg;
@@ -9,108 +10,90 @@ use bpf_prune::{Entry, Finished, Work};
 use std::alloc::Global;
 use std::process::Abort;
 
-/// Any number.
-fn number() -> AbsVal {
-    AbsVal::Number(AbsNum::full())
-}
+/// A state at a slot, in which R0 holds a value, and R1 anything.
+type At = (usize, Val);
 
-/// A state at a slot: R0 holds `value`, R1 anything.
-fn state(rt: &impl Abort, alloc: Global, pc: usize, value: AbsVal) -> AbsState {
+fn state(rt: &impl Abort, alloc: Global, at: &At) -> AbsState {
+    let (pc, val) = at;
     let mut state = AbsState::entry(alloc).expect(rt, "memory");
-    state.set_register(Reg::new(0), value).expect(rt, "memory");
-    state
-        .set_register(Reg::new(1), AbsVal::Unset)
-        .expect(rt, "memory");
-    state.go_to(pc);
+    let held = state.set_register(Reg::new(0), value(val));
+    held.expect(rt, "memory");
+    let unset = state.set_register(Reg::new(1), AbsVal::Unset);
+    unset.expect(rt, "memory");
+    state.go_to(*pc);
     state
 }
 
-/// Keeps such a state with its budget.
-fn keep(
-    rt: &impl Abort,
-    finished: &mut Finished,
-    alloc: Global,
-    pc: usize,
-    value: AbsVal,
-    budget: u32,
-) {
-    let state = state(rt, alloc, pc, value);
+/// What is done to finished states, or found in them.
+enum Step {
+    /// Such a state is kept with its budget, so often.
+    Keep(At, u32, u32),
+    /// The budget of the kept state that covers such a state.
+    Covers(At, Option<u32>),
+}
+
+use Step::{Covers, Keep};
+
+fn keep(rt: &impl Abort, alloc: Global, finished: &mut Finished, at: &At, budget: u32) {
+    let state = state(rt, alloc, at);
     finished.keep(Entry { state, budget }).expect(rt, "memory");
 }
 
-/// The budget of the kept state that covers such a state.
-fn covering(
-    rt: &impl Abort,
-    finished: &Finished,
-    alloc: Global,
-    pc: usize,
-    value: AbsVal,
-) -> Option<u32> {
-    let state = state(rt, alloc, pc, value);
-    finished
-        .covering(&state, &mut Work::within(u64::MAX))
-        .expect(rt, "work")
+fn covering(rt: &impl Abort, alloc: Global, finished: &Finished, at: &At) -> Option<u32> {
+    let state = state(rt, alloc, at);
+    let mut work = Work::within(u64::MAX);
+    let found = finished.covering(&state, &mut work);
+    drop(state);
+    found.expect(rt, "work")
 }
+
+fn is_taken(rt: &impl Abort, alloc: Global, finished: &mut Finished, step: &Step) {
+    match step {
+        Keep(at, budget, times) => {
+            for _time in 0..*times {
+                keep(rt, alloc, finished, at, *budget);
+            }
+        }
+        Covers(at, budget) => {
+            let found = covering(rt, alloc, finished, at);
+            same(rt, (at.0, found), (at.0, *budget), "covering");
+        }
+    }
+}
+
+fn are_taken(rt: &impl Abort, alloc: Global, steps: &[Step]) {
+    let mut finished = Finished::new(alloc, 2).expect(rt, "memory");
+    for step in steps {
+        is_taken(rt, alloc, &mut finished, step);
+    }
+    drop(finished);
+}
+
+/// The newest that includes covers.
+const NEWEST: &[Step] = &[
+    Covers((1, AnyNumber), None),
+    Keep((1, Unset), 5, 1),
+    Covers((1, AnyNumber), Some(5)),
+    Keep((1, AnyNumber), 7, 1),
+    Keep((2, AnyNumber), 9, 1),
+    Covers((1, AnyNumber), Some(7)),
+    Covers((1, FrameEnd), Some(5)),
+    Covers((0, AnyNumber), None),
+    Covers((2, AnyNumber), None),
+];
+
+/// Of 64 the oldest is given up.
+const OLDEST: &[Step] = &[
+    Keep((1, Unset), 5, 1),
+    Keep((1, AnyNumber), 3, 63),
+    Covers((1, FrameEnd), Some(5)),
+    Keep((1, AnyNumber), 2, 1),
+    Covers((1, FrameEnd), None),
+    Covers((1, AnyNumber), Some(2)),
+];
 
 #[test]
 fn the_newest_that_includes_covers(rt: HostRuntime) {
-    let alloc = rt.alloc();
-    let mut finished = Finished::new(alloc, 2).expect(&rt, "memory");
-    same(
-        &rt,
-        covering(&rt, &finished, alloc, 1, number()),
-        None,
-        "covering",
-    );
-    keep(&rt, &mut finished, alloc, 1, AbsVal::Unset, 5);
-    same(
-        &rt,
-        covering(&rt, &finished, alloc, 1, number()),
-        Some(5),
-        "covering",
-    );
-    keep(&rt, &mut finished, alloc, 1, number(), 7);
-    keep(&rt, &mut finished, alloc, 2, number(), 9);
-    for (pc, value, budget) in [
-        (1, number(), Some(7)),
-        (1, AbsVal::FrameEnd, Some(5)),
-        (0, number(), None),
-        (2, number(), None),
-    ] {
-        same(
-            &rt,
-            covering(&rt, &finished, alloc, pc, value),
-            budget,
-            "covering",
-        );
-    }
-}
-
-#[test]
-fn of_64_the_oldest_is_given_up(rt: HostRuntime) {
-    let alloc = rt.alloc();
-    let mut finished = Finished::new(alloc, 2).expect(&rt, "memory");
-    keep(&rt, &mut finished, alloc, 1, AbsVal::Unset, 5);
-    for _newer in 0..63 {
-        keep(&rt, &mut finished, alloc, 1, number(), 3);
-    }
-    same(
-        &rt,
-        covering(&rt, &finished, alloc, 1, AbsVal::FrameEnd),
-        Some(5),
-        "covering",
-    );
-    keep(&rt, &mut finished, alloc, 1, number(), 2);
-    same(
-        &rt,
-        covering(&rt, &finished, alloc, 1, AbsVal::FrameEnd),
-        None,
-        "covering",
-    );
-    same(
-        &rt,
-        covering(&rt, &finished, alloc, 1, number()),
-        Some(2),
-        "covering",
-    );
+    are_taken(&rt, rt.alloc(), NEWEST);
+    are_taken(&rt, rt.alloc(), OLDEST);
 }

@@ -1,5 +1,7 @@
 //! Reading and writing of certificates.
 
+use crate::known::Val::{FrameEnd, FrameStart, Pointer, Unset};
+use crate::known::{Val, value};
 use crate::same::{counts, holds, same};
 use crate::small::{CODE, no_maps, small, with_byte};
 use bpf_absval::{AbsRegion, AbsVal};
@@ -9,71 +11,62 @@ use std::alloc::Global;
 use std::process::Abort;
 
 fn is_malformed(alloc: Global, shapes: &Shapes, bytes: &[u8]) -> bool {
-    matches!(read(alloc, shapes, bytes), Err(ReadFault::Malformed))
+    read(alloc, shapes, bytes).err() == Some(ReadFault::Malformed)
+}
+
+/// The first registers of a run.
+const REGISTERS: &[Val] = &[Unset, FrameStart, FrameEnd, Pointer(AbsRegion::Context, 0)];
+
+fn are_held(rt: &impl Abort, registers: &[AbsVal], wanted: &[Val]) {
+    for (register, val) in wanted.iter().enumerate() {
+        let found = registers.get(register).expect(rt, "a register");
+        same(rt, (register, *found), (register, value(val)), "registers");
+    }
 }
 
 /// The start states of a run, with a budget of 2.
 fn is_start(rt: &impl Abort, entry: &Entry) {
-    same(rt, entry.pc(), 0, "pc");
-    same(rt, entry.budget(), 2, "budget");
-    same(rt, entry.least(), 0, "least");
+    let found = (entry.pc(), entry.budget(), entry.least());
+    same(rt, found, (0, 2, 0), "pc, budget, least");
     same(rt, entry.rooms().len(), 0, "rooms");
     counts(rt, entry.frames().len(), 1, "frames");
     let frame = entry.frames().first().expect(rt, "a frame");
-    let registers = frame.registers.as_slice();
-    holds(
-        rt,
-        matches!(registers.get(0), Some(AbsVal::Unset)),
-        "registers",
-    );
-    holds(
-        rt,
-        matches!(registers.get(1), Some(AbsVal::Frame { label: None, .. })),
-        "registers",
-    );
-    holds(
-        rt,
-        matches!(registers.get(2), Some(AbsVal::FrameEnd)),
-        "registers",
-    );
-    holds(
-        rt,
-        matches!(
-            registers.get(3),
-            Some(AbsVal::Pointer {
-                region: AbsRegion::Context,
-                ..
-            })
-        ),
-        "registers",
-    );
+    are_held(rt, frame.registers.as_slice(), REGISTERS);
+}
+
+/// A certificate for data frames, of one entry: the start of a run of the code.
+fn is_small(rt: &impl Abort, certificate: &Certificate) {
+    same(rt, certificate.hook(), Hook::Data, "hook");
+    same(rt, certificate.code(), CODE.as_slice(), "code");
+    let entries = certificate.entries();
+    counts(rt, entries.len(), 1, "entries");
+    match entries[0].kind() {
+        Kind::Read(entry) => is_start(rt, entry),
+        Kind::Spelled(_) => holds(rt, false, "an entry that was read"),
+    }
+}
+
+/// The certificate that these bytes are, which is written as the same bytes.
+fn read_and_written(rt: &impl Abort, alloc: Global, shapes: &Shapes, bytes: &[u8]) -> Certificate {
+    let read = read(alloc, shapes, bytes).ok();
+    let certificate = read.expect(rt, "the bytes are a certificate");
+    let written = write(alloc, &certificate).ok();
+    let written = written.expect(rt, "it has a spelling");
+    same(rt, written.as_slice(), bytes, "written");
+    drop(written);
+    certificate
 }
 
 #[test]
 fn a_certificate_is_read_and_written(rt: HostRuntime) {
     let alloc = rt.alloc();
     let shapes = no_maps(&rt, alloc);
-    let bytes = small(&rt, alloc);
-    same(&rt, bytes.len(), 216, "bytes");
-    is_read_and_written(&rt, alloc, &shapes, &bytes);
-    let certificate: Certificate = read(alloc, &shapes, &bytes)
-        .ok()
-        .expect(&rt, "the bytes are a certificate");
-    holds(&rt, certificate.hook() == Hook::Data, "hook");
-    same(&rt, certificate.code(), CODE.as_slice(), "code");
-    let entries = certificate.entries();
-    counts(&rt, entries.len(), 1, "entries");
-    match entries[0].kind() {
-        Kind::Read(entry) => is_start(&rt, entry),
-        Kind::Spelled(_) => assert!(rt; false),
-    }
-}
-
-#[test]
-fn no_beginning_is_a_certificate(rt: HostRuntime) {
-    let alloc = rt.alloc();
-    let shapes = no_maps(&rt, alloc);
     let mut bytes = small(&rt, alloc);
+    same(&rt, bytes.len(), 216, "bytes");
+    let certificate = read_and_written(&rt, alloc, &shapes, &bytes);
+    is_small(&rt, &certificate);
+    drop(certificate);
+    // No beginning is a certificate, and no longer text.
     for end in 0..bytes.len() {
         holds(
             &rt,
@@ -83,44 +76,53 @@ fn no_beginning_is_a_certificate(rt: HostRuntime) {
     }
     bytes.push(0).expect(&rt, "memory");
     holds(&rt, is_malformed(alloc, &shapes, &bytes), "malformed");
+    drop(shapes);
 }
 
-/// It is read, and written unchanged.
-fn is_read_and_written(rt: &impl Abort, alloc: Global, shapes: &Shapes, bytes: &[u8]) {
-    let read = read(alloc, shapes, bytes).ok();
-    let certificate = read.expect(rt, "the bytes are a certificate");
-    let written = write(alloc, &certificate).ok();
-    let written = written.expect(rt, "it has a spelling");
-    same(rt, written.as_slice(), bytes, "written");
+/// Bytes at positions, and whether the certificate is malformed with them; otherwise it is read, and written unchanged.
+const BYTES: &[(usize, u8, bool)] = &[
+    // the magic, hook 0 and 4
+    (0, 0x42, true),
+    (4, 0, true),
+    (4, 4, true),
+    // a main function that returns, nine call frames, none
+    (38, 1, true),
+    (37, 9, true),
+    (37, 0, true),
+    // a stack frame and a map that don't exist
+    (42, 17, true),
+    (42, 32, true),
+    // low above high, a distance without a label, an unknown tag
+    (43, 1, true),
+    (93, 1, true),
+    (40, 7, true),
+    // another budget, another slot, an existing stack frame
+    (29, 7, false),
+    (27, 1, false),
+    (97, 16, false),
+];
+
+fn is_limited(rt: &impl Abort, alloc: Global, shapes: &Shapes, row: &(usize, u8, bool)) {
+    let (at, byte, wanted) = row;
+    let bytes = with_byte(rt, alloc, *at, *byte);
+    let malformed = is_malformed(alloc, shapes, &bytes);
+    same(
+        rt,
+        (*at, *byte, malformed),
+        (*at, *byte, *wanted),
+        "malformed",
+    );
+    if !malformed {
+        drop(read_and_written(rt, alloc, shapes, &bytes));
+    }
+    drop(bytes);
 }
 
 #[test]
 fn fields_have_limits(rt: HostRuntime) {
-    let alloc = rt.alloc();
-    let shapes = no_maps(&rt, alloc);
-    // The magic, hook 0 and 4, a main function that returns, nine call frames, a stack frame and a
-    // map that don't exist, low above high, a distance without a label, an unknown tag.
-    let wrong = [
-        (0, 0x42),
-        (4, 0),
-        (4, 4),
-        (38, 1),
-        (37, 9),
-        (37, 0),
-        (42, 17),
-        (42, 32),
-        (43, 1),
-        (93, 1),
-        (40, 7),
-    ];
-    for (at, byte) in wrong {
-        let bytes = with_byte(&rt, alloc, at, byte);
-        let malformed = is_malformed(alloc, &shapes, &bytes);
-        same(&rt, (at, byte, malformed), (at, byte, true), "malformed");
+    let shapes = no_maps(&rt, rt.alloc());
+    for row in BYTES {
+        is_limited(&rt, rt.alloc(), &shapes, row);
     }
-    // Another budget, another slot, an existing stack frame: read, and written unchanged.
-    for (at, byte) in [(29, 7), (27, 1), (97, 16)] {
-        let bytes = with_byte(&rt, alloc, at, byte);
-        is_read_and_written(&rt, alloc, &shapes, &bytes);
-    }
+    drop(shapes);
 }

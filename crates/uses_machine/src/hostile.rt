@@ -1,7 +1,8 @@
 //! Certificates with a changed byte, or truncated: each is refused, or accepted with a budget
 //! within which the program's runs on three frames end.
 
-use crate::making::{certified, program};
+use crate::making::certified;
+use crate::programs::of_text;
 use crate::same::holds;
 use bpf_cert::check;
 use bpf_decode::Program;
@@ -29,7 +30,12 @@ fn ends_within(program: &Program, bytes: &[u8], budget: u32) -> bool {
     };
     let mut port = ListPort::new(program.shapes(), &[]);
     let came_to = probe(program, &frame, &Context::new([0; 32]), &mut port, budget);
-    matches!(came_to, Probe::Ended(_))
+    let has_ended = match &came_to {
+        Probe::Ended(_) => true,
+        _ => false,
+    };
+    drop(came_to);
+    has_ended
 }
 
 /// Whether runs end on three frames: an empty one, a header alone, and a longer one.
@@ -41,18 +47,18 @@ fn all_end(program: &Program, budget: u32) -> bool {
 
 /// Whether bytes are accepted as a program's certificate. If so, its runs end.
 fn is_accepted(rt: &impl Abort, alloc: Global, text: &str, bytes: &[u8]) -> bool {
-    match check(alloc, program(rt, alloc, text, None), Hook::Data, bytes) {
-        Err(_) => false,
-        Ok(accepted) => {
-            holds(rt, all_end(accepted.program(), accepted.budget()), text);
-            true
-        }
-    }
+    let checked = check(alloc, of_text(rt, alloc, text, None), Hook::Data, bytes);
+    let Some(accepted) = checked.ok() else {
+        return false;
+    };
+    holds(rt, all_end(accepted.program(), accepted.budget()), text);
+    drop(accepted);
+    true
 }
 
 /// Sets each byte of a program's certificate to each value, and counts how often it is accepted.
 fn count_accepted(rt: &impl Abort, alloc: Global, text: &str) -> u32 {
-    let (_budget, mut bytes) = certified(rt, alloc, text, None);
+    let (_budget, mut bytes) = certified(rt, alloc, (text, None));
     let mut accepted = 0u32;
     for at in 0..bytes.len() {
         let kept = bytes[at];
@@ -69,23 +75,25 @@ fn count_accepted(rt: &impl Abort, alloc: Global, text: &str) -> u32 {
 
 /// A program's certificate is accepted, and none of its proper prefixes.
 fn is_accepted_whole(rt: &impl Abort, alloc: Global, text: &str) {
-    let (_budget, bytes) = certified(rt, alloc, text, None);
+    let (_budget, bytes) = certified(rt, alloc, (text, None));
     for end in 0..bytes.len() {
         holds(rt, !is_accepted(rt, alloc, text, &bytes[..end]), text);
     }
     holds(rt, is_accepted(rt, alloc, text, bytes.as_slice()), text);
 }
 
+const TEXTS: &[&str] = &[PLAIN, LOOP, ROOMS];
+
 #[test]
 fn no_beginning_is_accepted(rt: HostRuntime) {
-    for text in [PLAIN, LOOP, ROOMS] {
+    for text in TEXTS {
         is_accepted_whole(&rt, rt.alloc(), text);
     }
 }
 
 #[test]
 fn a_changed_byte_is_refused_or_safe(rt: HostRuntime) {
-    for text in [PLAIN, LOOP, ROOMS] {
+    for text in TEXTS {
         let accepted = count_accepted(&rt, rt.alloc(), text);
         holds(&rt, accepted > 0, "greater budgets are accepted");
     }

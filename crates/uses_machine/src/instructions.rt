@@ -1,4 +1,4 @@
-//! Slots against the tables of RFC 9669.
+//! Slots against the tables of RFC 9669. A slot is written with its first byte as the highest.
 
 use crate::same::same;
 use bpf_insn::{
@@ -9,105 +9,65 @@ use std::process::Abort;
 
 const ZEROS: [u8; 8] = [0; 8];
 
-/// Whether an opcode is known: with zero fields it is an instruction, or lacks only a width.
-fn is_known(opcode: u8) -> bool {
-    match Insn::from_slots([opcode, 0, 0, 0, 0, 0, 0, 0], Some(ZEROS)) {
-        Ok(_) => true,
-        Err(fault) => fault == FieldFault::Undefined && matches!(opcode, 0xd4 | 0xd7 | 0xdc),
+/// Whether an opcode is known: with zero fields it is an instruction, or lacks only a width. No other fault but of the
+/// opcode comes before.
+fn is_known(rt: &impl Abort, opcode: u8) -> bool {
+    let fault = Insn::from_slots([opcode, 0, 0, 0, 0, 0, 0, 0], Some(ZEROS)).err();
+    let lacks_width = matches!(opcode, 0xd4 | 0xd7 | 0xdc);
+    if fault.is_none() || fault == Some(FieldFault::Undefined) && lacks_width {
+        return true;
     }
+    same(
+        rt,
+        (opcode, fault),
+        (opcode, Some(FieldFault::UnknownOpcode)),
+        "opcode",
+    );
+    false
 }
 
 #[test]
 fn opcodes_are_119_or_unknown(rt: HostRuntime) {
+    let mut known = 0u32;
     for opcode in 0..=255u8 {
-        if !is_known(opcode) {
-            let read = Insn::from_slots([opcode, 0, 0, 0, 0, 0, 0, 0], Some(ZEROS));
-            same(
-                &rt,
-                (opcode, read),
-                (opcode, Err(FieldFault::UnknownOpcode)),
-                "opcode",
-            );
+        if is_known(&rt, opcode) {
+            known = known.saturating_add(1);
         }
     }
-    same(
-        &rt,
-        (0..=255u8).filter(|opcode| is_known(*opcode)).count(),
-        119,
-        "count",
-    );
+    same(&rt, known, 119, "count");
 }
 
-/// A slot is read as this instruction, which is written as that slot.
-fn is_read(rt: &impl Abort, slot: [u8; 8], insn: Insn) {
-    let read = Insn::from_slots(slot, None);
-    same(rt, (slot, read), (slot, Ok(insn)), "read");
-    if let Ok(read) = Insn::from_slots(slot, None) {
-        same(rt, read.to_slots(), (slot, None), "written");
+/// Slots, the first and for a wide load the second, and what is read.
+type Row = (u64, Option<u64>, Result<Insn, FieldFault>);
+
+/// What is read is written as the same slots.
+fn is_read(rt: &impl Abort, row: &Row) {
+    let (first, second, wanted) = row;
+    let slot = first.to_be_bytes();
+    let half = match second {
+        Some(second) => Some(second.to_be_bytes()),
+        None => None,
+    };
+    let read = Insn::from_slots(slot, half);
+    same(rt, (slot, half, read), (slot, half, *wanted), "read");
+    if let Ok(insn) = Insn::from_slots(slot, half) {
+        same(rt, insn.to_slots(), (slot, half), "written");
     }
 }
 
-/// The destination of each row.
-fn r1() -> Reg {
-    Reg::new(1)
-}
-
-/// The source of rows that have one.
-fn r2() -> Reg {
-    Reg::new(2)
+/// Each slot is read as its instruction.
+fn are_read(rt: &impl Abort, rows: &[(u64, Insn)]) {
+    for (slot, insn) in rows {
+        is_read(rt, &(*slot, None, Ok(*insn)));
+    }
 }
 
 fn alu(op: AluOp, wide: bool, source: Source) -> Insn {
     Insn::Alu {
         op,
         wide,
-        dst: r1(),
+        dst: Reg::new(1),
         source,
-    }
-}
-
-#[test]
-fn arithmetic_is_read_as_the_tables_say(rt: HostRuntime) {
-    // add r1, -2; sub32 r1, r2; sdiv r1, r2; smod32 r1, 3; arsh r1, 63; neg r1
-    for (slot, insn) in [
-        (
-            [0x07, 0x01, 0, 0, 0xfe, 0xff, 0xff, 0xff],
-            alu(AluOp::Add, true, Source::Imm(-2)),
-        ),
-        (
-            [0x1c, 0x21, 0, 0, 0, 0, 0, 0],
-            alu(AluOp::Sub, false, Source::Reg(r2())),
-        ),
-        (
-            [0x3f, 0x21, 1, 0, 0, 0, 0, 0],
-            alu(AluOp::Sdiv, true, Source::Reg(r2())),
-        ),
-        (
-            [0x94, 0x01, 1, 0, 3, 0, 0, 0],
-            alu(AluOp::Smod, false, Source::Imm(3)),
-        ),
-        (
-            [0xc7, 0x01, 0, 0, 63, 0, 0, 0],
-            alu(AluOp::Arsh, true, Source::Imm(63)),
-        ),
-        (
-            [0x87, 0x01, 0, 0, 0, 0, 0, 0],
-            Insn::Neg {
-                wide: true,
-                dst: r1(),
-            },
-        ),
-    ] {
-        is_read(&rt, slot, insn);
-    }
-}
-
-fn move_signed(from: Extension, wide: bool) -> Insn {
-    Insn::MovSx {
-        from,
-        wide,
-        dst: r1(),
-        src: r2(),
     }
 }
 
@@ -115,67 +75,49 @@ fn end(order: ByteOrder, width: OrderWidth) -> Insn {
     Insn::End {
         order,
         width,
-        dst: r1(),
+        dst: Reg::new(1),
     }
 }
 
 #[test]
-fn moves_and_byte_orders_are_read_as_the_tables_say(rt: HostRuntime) {
-    // movsx32 r1, r2; movsx16_32 r1, r2; be16 r1; swap64 r1
-    for (slot, insn) in [
-        (
-            [0xbf, 0x21, 32, 0, 0, 0, 0, 0],
-            move_signed(Extension::Word, true),
-        ),
-        (
-            [0xbc, 0x21, 16, 0, 0, 0, 0, 0],
-            move_signed(Extension::Half, false),
-        ),
-        (
-            [0xdc, 0x01, 0, 0, 16, 0, 0, 0],
-            end(ByteOrder::Big, OrderWidth::Half),
-        ),
-        (
-            [0xd7, 0x01, 0, 0, 64, 0, 0, 0],
-            end(ByteOrder::Swap, OrderWidth::Double),
-        ),
-    ] {
-        is_read(&rt, slot, insn);
-    }
-}
-
-#[test]
-fn jumps_are_read_as_the_tables_say(rt: HostRuntime) {
-    let taken = Insn::Branch {
-        compare: Compare::Sgt,
-        wide: false,
-        dst: r1(),
-        source: Source::Imm(-1),
-        offset: 2,
+fn arithmetic_and_moves_are_read_as_the_tables_say(rt: HostRuntime) {
+    let (dst, src) = (Reg::new(1), Reg::new(2));
+    let neg = Insn::Neg { wide: true, dst };
+    let long = Insn::MovSx {
+        from: Extension::Word,
+        wide: true,
+        dst,
+        src,
     };
-    // ja -1; ja32 +65536; jsgt32 r1, -1, +2; call 5; call local +1; exit
-    for (slot, insn) in [
-        ([0x05, 0, 0xff, 0xff, 0, 0, 0, 0], Insn::Jump { offset: -1 }),
-        (
-            [0x06, 0, 0, 0, 0, 0, 1, 0],
-            Insn::JumpLong { offset: 65536 },
-        ),
-        ([0x66, 0x01, 2, 0, 0xff, 0xff, 0xff, 0xff], taken),
-        ([0x85, 0, 0, 0, 5, 0, 0, 0], Insn::Call { helper: 5 }),
-        (
-            [0x85, 0x10, 0, 0, 1, 0, 0, 0],
-            Insn::CallLocal { offset: 1 },
-        ),
-        ([0x95, 0, 0, 0, 0, 0, 0, 0], Insn::Exit),
-    ] {
-        is_read(&rt, slot, insn);
-    }
+    let short = Insn::MovSx {
+        from: Extension::Half,
+        wide: false,
+        dst,
+        src,
+    };
+    // add r1, -2; sub32 r1, r2; sdiv r1, r2; smod32 r1, 3; arsh r1, 63; neg r1; movsx32 r1, r2; movsx16_32 r1, r2;
+    // be16 r1; swap64 r1
+    are_read(
+        &rt,
+        &[
+            (0x07010000feffffff, alu(AluOp::Add, true, Source::Imm(-2))),
+            (0x1c21000000000000, alu(AluOp::Sub, false, Source::Reg(src))),
+            (0x3f21010000000000, alu(AluOp::Sdiv, true, Source::Reg(src))),
+            (0x9401010003000000, alu(AluOp::Smod, false, Source::Imm(3))),
+            (0xc70100003f000000, alu(AluOp::Arsh, true, Source::Imm(63))),
+            (0x8701000000000000, neg),
+            (0xbf21200000000000, long),
+            (0xbc21100000000000, short),
+            (0xdc01000010000000, end(ByteOrder::Big, OrderWidth::Half)),
+            (0xd701000040000000, end(ByteOrder::Swap, OrderWidth::Double)),
+        ],
+    );
 }
 
 fn store(size: Size, offset: i16, source: Source) -> Insn {
     Insn::Store {
         size,
-        dst: r1(),
+        dst: Reg::new(1),
         offset,
         source,
     }
@@ -185,116 +127,93 @@ fn atomic(op: AtomicOp, wide: bool) -> Insn {
     Insn::Atomic {
         op,
         wide,
-        dst: r1(),
-        src: r2(),
+        dst: Reg::new(1),
+        src: Reg::new(2),
         offset: 0,
     }
 }
 
 #[test]
-fn accesses_are_read_as_the_tables_say(rt: HostRuntime) {
+fn jumps_and_accesses_are_read_as_the_tables_say(rt: HostRuntime) {
+    let (dst, src) = (Reg::new(1), Reg::new(2));
+    let taken = Insn::Branch {
+        compare: Compare::Sgt,
+        wide: false,
+        dst,
+        source: Source::Imm(-1),
+        offset: 2,
+    };
     let load = Insn::Load {
         size: Size::Half,
         signed: true,
-        dst: r1(),
-        src: r2(),
+        dst,
+        src,
         offset: -8,
     };
-    // ldsxh r1, [r2-8]; stw [r1+4], 7; stxdw [r1+8], r2; cmpxchg [r1+0], r2; fetch_and32 [r1+0], r2
-    for (slot, insn) in [
-        ([0x89, 0x21, 0xf8, 0xff, 0, 0, 0, 0], load),
-        (
-            [0x62, 0x01, 4, 0, 7, 0, 0, 0],
-            store(Size::Word, 4, Source::Imm(7)),
-        ),
-        (
-            [0x7b, 0x21, 8, 0, 0, 0, 0, 0],
-            store(Size::Double, 8, Source::Reg(r2())),
-        ),
-        (
-            [0xdb, 0x21, 0, 0, 0xf1, 0, 0, 0],
-            atomic(AtomicOp::Cmpxchg, true),
-        ),
-        (
-            [0xc3, 0x21, 0, 0, 0x51, 0, 0, 0],
-            atomic(AtomicOp::FetchAnd, false),
-        ),
-    ] {
-        is_read(&rt, slot, insn);
-    }
+    // ja -1; ja32 +65536; jsgt32 r1, -1, +2; call 5; call local +1; exit; ldsxh r1, [r2-8]; stw [r1+4], 7;
+    // stxdw [r1+8], r2; cmpxchg [r1+0], r2; fetch_and32 [r1+0], r2
+    are_read(
+        &rt,
+        &[
+            (0x0500ffff00000000, Insn::Jump { offset: -1 }),
+            (0x0600000000000100, Insn::JumpLong { offset: 65536 }),
+            (0x66010200ffffffff, taken),
+            (0x8500000005000000, Insn::Call { helper: 5 }),
+            (0x8510000001000000, Insn::CallLocal { offset: 1 }),
+            (0x9500000000000000, Insn::Exit),
+            (0x8921f8ff00000000, load),
+            (0x6201040007000000, store(Size::Word, 4, Source::Imm(7))),
+            (0x7b21080000000000, store(Size::Double, 8, Source::Reg(src))),
+            (0xdb210000f1000000, atomic(AtomicOp::Cmpxchg, true)),
+            (0xc321000051000000, atomic(AtomicOp::FetchAnd, false)),
+        ],
+    );
 }
 
-#[test]
-fn wide_loads_are_read_as_the_tables_say(rt: HostRuntime) {
+fn is_loaded(rt: &impl Abort, first: u64, second: u64, value: Wide) {
     let dst = Reg::new(3);
-    // The low half first, each half's lowest byte first.
-    let low = [0x18, 0x03, 0, 0, 0x88, 0x77, 0x66, 0x55];
-    let high = [0, 0, 0, 0, 0x44, 0x33, 0x22, 0x11];
-    let value = Wide::Number(0x1122_3344_5566_7788);
-    same(
-        &rt,
-        Insn::from_slots(low, Some(high)),
-        Ok(Insn::LoadWide { dst, value }),
-        "read",
+    is_read(
+        rt,
+        &(first, Some(second), Ok(Insn::LoadWide { dst, value })),
     );
-    let value = Wide::MapValue { map: 2, offset: 16 };
-    let halves = (
-        Some([0, 0, 0, 0, 16, 0, 0, 0]),
-        [0x18, 0x63, 0, 0, 2, 0, 0, 0],
-    );
-    same(
-        &rt,
-        Insn::from_slots(halves.1, halves.0),
-        Ok(Insn::LoadWide { dst, value }),
-        "read",
-    );
-    let map = [0x18, 0x53, 0, 0, 1, 0, 0, 0];
-    same(
-        &rt,
-        Insn::from_slots(map, Some(ZEROS)),
-        Ok(Insn::LoadWide {
-            dst,
-            value: Wide::Map(1),
-        }),
-        "read",
-    );
-    if let Ok(read) = Insn::from_slots(low, Some(high)) {
-        same(&rt, read.to_slots(), (low, Some(high)), "written");
-    }
 }
 
-#[test]
-fn the_lowest_fault_is_named(rt: HostRuntime) {
-    let faults = [
-        ([0x00, 0, 0, 0, 0, 0, 0, 0], FieldFault::UnknownOpcode),
-        // Register 11, with an unused field set as well.
-        ([0x0f, 0x0b, 1, 0, 0, 0, 0, 0], FieldFault::HighRegister),
-        ([0x0f, 0x00, 1, 0, 0, 0, 0, 0], FieldFault::UnusedSet),
-        // A move of a number with an offset, and of a register with an undefined offset.
-        ([0xb7, 0x00, 8, 0, 0, 0, 0, 0], FieldFault::UnusedSet),
-        ([0xbf, 0x00, 9, 0, 0, 0, 0, 0], FieldFault::Undefined),
-        // 32 bits aren't extended to 32.
-        ([0xbc, 0x00, 32, 0, 0, 0, 0, 0], FieldFault::Undefined),
-        ([0x85, 0x20, 0, 0, 0, 0, 0, 0], FieldFault::Undefined),
-        ([0x18, 0x00, 0, 0, 0, 0, 0, 0], FieldFault::CutWide),
-        ([0x18, 0x10, 0, 0, 0, 0, 0, 0], FieldFault::Undefined),
-    ];
-    for (slot, fault) in faults {
-        let read = Insn::from_slots(slot, None);
-        same(&rt, (slot, read), (slot, Err(fault)), "fault");
-    }
+/// Slots with a fault, the lowest of which is named.
+const FAULTY: &[(u64, Option<u64>, FieldFault)] = &[
+    (0, None, FieldFault::UnknownOpcode),
+    // Register 11, with an unused field set as well.
+    (0x0f0b010000000000, None, FieldFault::HighRegister),
+    (0x0f00010000000000, None, FieldFault::UnusedSet),
+    // A move of a number with an offset, and of a register with an undefined offset.
+    (0xb700080000000000, None, FieldFault::UnusedSet),
+    (0xbf00090000000000, None, FieldFault::Undefined),
+    // 32 bits aren't extended to 32.
+    (0xbc00200000000000, None, FieldFault::Undefined),
+    (0x8520000000000000, None, FieldFault::Undefined),
+    (0x1800000000000000, None, FieldFault::CutWide),
+    (0x1810000000000000, None, FieldFault::Undefined),
     // A map whose second half has a number, and one whose second half has an opcode.
-    let map = [0x18, 0x50, 0, 0, 0, 0, 0, 0];
-    same(
-        &rt,
-        Insn::from_slots(map, Some([1, 0, 0, 0, 1, 0, 0, 0])),
-        Err(FieldFault::UnusedSet),
-        "read",
-    );
-    same(
-        &rt,
-        Insn::from_slots(map, Some([1, 0, 0, 0, 0, 0, 0, 0])),
-        Err(FieldFault::CutWide),
-        "read",
-    );
+    (
+        0x1850000000000000,
+        Some(0x0100000001000000),
+        FieldFault::UnusedSet,
+    ),
+    (
+        0x1850000000000000,
+        Some(0x0100000000000000),
+        FieldFault::CutWide,
+    ),
+];
+
+#[test]
+fn wide_loads_and_faults_are_read_as_the_tables_say(rt: HostRuntime) {
+    // The low half first, each half's lowest byte first.
+    let number = Wide::Number(0x1122_3344_5566_7788);
+    is_loaded(&rt, 0x1803000088776655, 0x44332211, number);
+    let value = Wide::MapValue { map: 2, offset: 16 };
+    is_loaded(&rt, 0x1863000002000000, 0x10000000, value);
+    is_loaded(&rt, 0x1853000001000000, 0, Wide::Map(1));
+    for (first, second, fault) in FAULTY {
+        is_read(&rt, &(*first, *second, Err(*fault)));
+    }
 }

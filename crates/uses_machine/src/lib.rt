@@ -33,6 +33,8 @@ mod instructions;
 #[cfg(test)]
 mod intervals;
 #[cfg(test)]
+mod known;
+#[cfg(test)]
 mod lines;
 #[cfg(test)]
 mod making;

@@ -1,80 +1,65 @@
 //! Certificates generated for programs, by their text.
 
+use crate::programs::{FOUR, ONE, admitted, of_text, repeated};
 use crate::same::same;
-use bpf_cert::{certificate, check};
-use bpf_decode::{Program, decode};
-use bpf_regions::{Hook, Scope, Shape, Shapes, WordWidth};
-use bpf_text::assemble;
-use bpf_verifier::verify;
+use bpf_cert::{CertFault, certificate, check};
+use bpf_machine::Accepted;
+use bpf_regions::{Hook, Shape};
 use std::alloc::Global;
 use std::process::Abort;
 
-/// The shapes of one map of 8-byte words, or of none.
-fn shapes_of(rt: &impl Abort, alloc: Global, map: Option<(u32, u32)>) -> Shapes {
-    let mut shapes = Vec::new(alloc);
-    if let Some((entries, words)) = map {
-        let shape = Shape {
-            entries,
-            words,
-            width: WordWidth::Eight,
-            scope: Scope::Shared,
-        };
-        shapes.push(shape).expect(rt, "memory");
-    }
-    Shapes::new(shapes).expect(rt, "a map within the limits")
-}
-
-/// The program of this text.
-pub(crate) fn program(
-    rt: &impl Abort,
-    alloc: Global,
-    text: &str,
-    map: Option<(u32, u32)>,
-) -> Program {
-    let code = assemble(alloc, text).expect(rt, text);
-    let shapes = shapes_of(rt, alloc, map);
-    decode(alloc, &code, shapes).expect(rt, text)
-}
+/// A text, and its map.
+type Text<'a> = (&'a str, Option<Shape>);
 
 /// The budget with which a program is verified, and its certificate.
-pub(crate) fn certified(
-    rt: &impl Abort,
-    alloc: Global,
-    text: &str,
-    map: Option<(u32, u32)>,
-) -> (u32, Vec<u8>) {
-    let program = program(rt, alloc, text, map);
-    let accepted = verify(alloc, program, Hook::Data).ok().expect(rt, text);
-    let bytes = certificate(alloc, &accepted).ok().expect(rt, text);
-    (accepted.budget(), bytes)
+pub(crate) fn certified(rt: &impl Abort, alloc: Global, text: Text<'_>) -> (u32, Vec<u8>) {
+    let accepted = admitted(rt, alloc, text.0, text.1);
+    let budget = accepted.budget();
+    let bytes = certificate(alloc, &accepted).ok().expect(rt, text.0);
+    drop(accepted);
+    (budget, bytes)
 }
 
-/// The budget that a check returns, or the number of its refusal.
-fn checked(alloc: Global, program: Program, hook: Hook, bytes: &[u8]) -> u32 {
-    match check(alloc, program, hook, bytes) {
-        Ok(accepted) => accepted.budget(),
+pub(crate) fn budget_of(accepted: Accepted) -> u32 {
+    let budget = accepted.budget();
+    drop(accepted);
+    budget
+}
+
+/// The budget of an accepted program, or the number of a refusal.
+pub(crate) fn answer_of(checked: Result<Accepted, CertFault>) -> u32 {
+    match checked {
+        Ok(accepted) => budget_of(accepted),
         Err(fault) => u32::from(fault.number()),
     }
 }
 
-/// A program is verified with this budget, and its certificate, which is for its hook alone, has
-/// the same.
-fn is_certified(rt: &impl Abort, alloc: Global, text: &str, map: Option<(u32, u32)>, budget: u32) {
-    let (verified, bytes) = certified(rt, alloc, text, map);
-    same(rt, verified, budget, text);
-    let again = program(rt, alloc, text, map);
-    same(rt, checked(alloc, again, Hook::Data, &bytes), budget, text);
-    let again = program(rt, alloc, text, map);
-    same(
-        rt,
-        checked(alloc, again, Hook::Association, &bytes),
-        71,
-        text,
-    );
+/// The budget that a check returns, or the number of its refusal.
+pub(crate) fn checked(
+    rt: &impl Abort,
+    alloc: Global,
+    text: Text<'_>,
+    hook: Hook,
+    bytes: &[u8],
+) -> u32 {
+    answer_of(check(alloc, of_text(rt, alloc, text.0, text.1), hook, bytes))
 }
 
-/// Programs, the entries and words of their map, and their budgets.
-const PROGRAMS: &[(&str, Option<(u32, u32)>, u32)] = &[
+/// A program is verified with this budget, and its certificate, which is for its hook alone, has
+/// the same.
+fn is_certified(rt: &impl Abort, alloc: Global, text: Text<'_>, budget: u32) {
+    let (verified, bytes) = certified(rt, alloc, text);
+    let found = [
+        verified,
+        checked(rt, alloc, text, Hook::Data, &bytes),
+        checked(rt, alloc, text, Hook::Association, &bytes),
+    ];
+    drop(bytes);
+    same(rt, found, [budget, budget, 71], text.0);
+}
+
+/// Programs, their maps, and their budgets.
+const PROGRAMS: &[(&str, Option<Shape>, u32)] = &[
     // a byte of the frame, if it is long enough
     (
         "mov r3, r1\nadd r3, 26\nmov r0, 0\njgt r3, r2, +1\nldxb r0, [r1+24]\nexit",
@@ -96,12 +81,12 @@ const PROGRAMS: &[(&str, Option<(u32, u32)>, u32)] = &[
     // an entry of a map; an index within a map's value
     (
         "lddw r1, map 0\nmov r2, 3\ncall 1\njne r0, 0, +1\nexit\nldxdw r0, [r0+0]\nexit",
-        Some((4, 1)),
+        FOUR,
         6,
     ),
     (
         "lddw r6, value 0 0\nldxdw r2, [r6+0]\nmov r0, 0\njslt r2, -4, +5\njsgt r2, 3, +4\nadd r2, 4\nlsh r2, 3\nadd r6, r2\nldxdw r0, [r6+0]\nexit",
-        Some((1, 8)),
+        ONE,
         10,
     ),
     // the callee spills its argument; the caller keeps r6 and a stack slot, over a loop in the
@@ -118,28 +103,16 @@ const PROGRAMS: &[(&str, Option<(u32, u32)>, u32)] = &[
     ),
 ];
 
-#[test]
-fn programs_are_certified(rt: HostRuntime) {
-    for (text, map, budget) in PROGRAMS {
-        is_certified(&rt, rt.alloc(), text, *map, *budget);
-    }
-}
-
 /// A call whose result is limited to at most 7. Both branches join in one state.
 const TURN: &str = "call 4\njgt r0, 7, +1\nmov r0, 0\n";
 
-/// The program of `count` such calls.
-fn calls(rt: &impl Abort, alloc: Global, count: usize) -> String {
-    let mut text = String::new(alloc);
-    for _ in 0..count {
-        text.push_str(TURN).expect(rt, "memory");
-    }
-    text.push_str("mov r0, 0\nexit").expect(rt, "memory");
-    text
-}
-
 #[test]
-fn states_that_join_are_certified_once(rt: HostRuntime) {
-    let text = calls(&rt, rt.alloc(), 24);
-    is_certified(&rt, rt.alloc(), &text, None, 74);
+fn programs_are_certified(rt: HostRuntime) {
+    for (text, map, budget) in PROGRAMS {
+        is_certified(&rt, rt.alloc(), (*text, *map), *budget);
+    }
+    // States that join are certified once.
+    let text = repeated(&rt, rt.alloc(), &[(TURN, 24), ("mov r0, 0\nexit", 1)]);
+    is_certified(&rt, rt.alloc(), (text.as_str(), None), 74);
+    drop(text);
 }

@@ -4,7 +4,6 @@
 use bpf_regions::{Hook, Scope, Shape, WordWidth};
 
 /// A program, its hook, and its maps.
-#[derive(Clone, Copy, Drop)]
 pub struct Policy {
     pub name: &'static str,
     pub slots: &'static [u64],
@@ -507,7 +506,7 @@ const MARK_AND_COUNT: [u64; 11] = [
 
 /// All accepted ones but two in the assembler's language: `texts` has the loop and the header of
 /// variable length.
-pub const POLICIES: [Policy; 19] = [
+pub const POLICIES: &[Policy] = &[
     Policy {
         name: "agreements",
         slots: &AGREEMENTS,

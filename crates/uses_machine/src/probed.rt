@@ -1,8 +1,8 @@
 //! Programs of slots, accepted or not, and their results on the tagged machine: R0 and the steps,
 //! or the slot and number of a fault. Accepted programs have the same results on both machines.
 
-use crate::alike::compare_on_frames;
-use crate::programs::of_slots;
+use crate::alike::{compare_on_frames, ended};
+use crate::programs::{FOUR, ONE as ONE_ENTRY, of_slots};
 use crate::same::same;
 use bpf_helpers::PlainPort;
 use bpf_machine::probing::probe;
@@ -67,7 +67,6 @@ const LOAD: u64 = 0x7900000000000000;
 
 /// The result of a program: R0 and the steps, or the slot and the number of a fault, or that the
 /// limit cut the run.
-#[derive(Clone, Copy, Debug, PartialEq)]
 enum End {
     Ends(u64, u32),
     Faults(usize, u8),
@@ -76,51 +75,58 @@ enum End {
 
 use End::{Cut, Ends, Faults};
 
-fn end_of(answer: &Probe) -> End {
-    match answer {
-        Probe::Ended(outcome) => Ends(outcome.r0, outcome.steps),
-        Probe::Faulted { pc, number } => Faults(*pc, *number),
-        Probe::Cut => Cut,
+/// R0 and the steps; otherwise the slot and the number of a fault, if there is one.
+type Told = Result<(u64, u32), Option<(usize, u8)>>;
+
+fn told(end: &End) -> Told {
+    match end {
+        Ends(r0, steps) => Ok((*r0, *steps)),
+        Faults(pc, number) => Err(Some((*pc, *number))),
+        Cut => Err(None),
     }
+}
+
+fn came_to(answer: Probe) -> Told {
+    let told = match &answer {
+        Probe::Ended(outcome) => Ok((outcome.r0, outcome.steps)),
+        Probe::Faulted { pc, number } => Err(Some((*pc, *number))),
+        Probe::Cut => Err(None),
+    };
+    drop(answer);
+    told
 }
 
 /// The inputs of a probe: the shape of a map, a frame, the answers to queries, and a limit of
 /// steps.
-#[derive(Clone, Copy, Drop)]
-struct Given<'a> {
-    map: Option<Shape>,
-    frame: &'a [u8],
-    answers: &'a [u64],
-    limit: u32,
-}
+type Given<'a> = (Option<Shape>, &'a [u8], &'a [u64], u32);
 
 /// If a program is accepted, its results on both machines are the same.
 fn compare_admitted(rt: &impl Abort, alloc: Global, slots: &[u64], map: Option<Shape>) {
     let program = of_slots(rt, alloc, slots, map);
-    if let Ok(accepted) = verify(alloc, program, Hook::Data) {
+    if let Some(accepted) = verify(alloc, program, Hook::Data).ok() {
         compare_on_frames(rt, &accepted, "slots");
+        drop(accepted);
     }
 }
 
 /// Probes a program on a frame, with answers from a list.
 fn probed(rt: &impl Abort, alloc: Global, slots: &[u64], given: Given<'_>) -> Probe {
-    let program = of_slots(rt, alloc, slots, given.map);
-    let frame = Frame::new(given.frame).expect(rt, "a short frame");
-    let mut port = ListPort::new(program.shapes(), given.answers);
-    probe(
-        &program,
-        &frame,
-        &Context::new([0; 32]),
-        &mut port,
-        given.limit,
-    )
+    let (map, bytes, answers, limit) = given;
+    let program = of_slots(rt, alloc, slots, map);
+    let frame = Frame::new(bytes).expect(rt, "a short frame");
+    let context = Context::new([0; 32]);
+    let mut port = ListPort::new(program.shapes(), answers);
+    let answer = probe(&program, &frame, &context, &mut port, limit);
+    drop(port);
+    drop(program);
+    answer
 }
 
 /// The program has this result.
-fn is_probed(rt: &impl Abort, alloc: Global, slots: &[u64], given: Given<'_>, end: End) {
-    compare_admitted(rt, alloc, slots, given.map);
-    let answer = probed(rt, alloc, slots, given);
-    same(rt, (slots, end_of(&answer)), (slots, end), "slots, end");
+fn is_probed(rt: &impl Abort, alloc: Global, slots: &[u64], given: Given<'_>, end: &End) {
+    compare_admitted(rt, alloc, slots, given.0);
+    let found = came_to(probed(rt, alloc, slots, given));
+    same(rt, (slots, found), (slots, told(end)), "slots, end");
 }
 
 /// A program without a map, and its result on an empty frame.
@@ -128,13 +134,7 @@ type Row = (&'static [u64], End);
 
 fn are_probed(rt: &impl Abort, alloc: Global, rows: &[Row]) {
     for (slots, end) in rows {
-        let given = Given {
-            map: None,
-            frame: &[],
-            answers: &[],
-            limit: 1000,
-        };
-        is_probed(rt, alloc, slots, given, *end);
+        is_probed(rt, alloc, slots, (None, &[], &[], 1000), end);
     }
 }
 
@@ -316,16 +316,6 @@ const CALLS: &[Row] = &[
     ),
 ];
 
-#[test]
-fn programs_without_maps_come_to_their_ends(rt: HostRuntime) {
-    are_probed(&rt, rt.alloc(), DIVISIONS);
-    are_probed(&rt, rt.alloc(), WORDS);
-    are_probed(&rt, rt.alloc(), FAULTS);
-    are_probed(&rt, rt.alloc(), SPILLED);
-    are_probed(&rt, rt.alloc(), ATOMICS);
-    are_probed(&rt, rt.alloc(), CALLS);
-}
-
 /// 64 iterations of a loop.
 const TURNS: &[u64] = &[
     0xb700000000000000,
@@ -359,43 +349,43 @@ const TESTED_LOAD: &[u64] = &[
     EXIT,
 ];
 
+/// The 25th byte is 77.
+const BYTES: &[u8] = &[
+    0, 0, 0, 0, 0, 0, 0, 0, 0, 0, 0, 0, 0, 0, 0, 0, 0, 0, 0, 0, 0, 0, 0, 0, 77, 0,
+];
+
 #[test]
-fn limits_cut_runs_and_frames_are_tested(rt: HostRuntime) {
-    for (slots, limit, end) in LIMITS {
-        let given = Given {
-            map: None,
-            frame: &[],
-            answers: &[],
-            limit: *limit,
-        };
-        is_probed(&rt, rt.alloc(), slots, given, *end);
-    }
-    let mut bytes = [0u8; 26];
-    bytes[24] = 77;
-    for (length, end) in [(26, Ends(77, 6)), (24, Ends(0, 5))] {
-        let given = Given {
-            map: None,
-            frame: &bytes[..length],
-            answers: &[],
-            limit: 1000,
-        };
-        is_probed(&rt, rt.alloc(), TESTED_LOAD, given, end);
-    }
+fn programs_without_maps_come_to_their_ends(rt: HostRuntime) {
+    let alloc = rt.alloc();
+    are_probed(&rt, alloc, DIVISIONS);
+    are_probed(&rt, alloc, WORDS);
+    are_probed(&rt, alloc, FAULTS);
+    are_probed(&rt, alloc, SPILLED);
+    are_probed(&rt, alloc, ATOMICS);
+    are_probed(&rt, alloc, CALLS);
 }
 
-const FOUR: Option<Shape> = Some(Shape {
-    entries: 4,
-    words: 1,
-    width: WordWidth::Eight,
-    scope: Scope::Shared,
-});
-
-const ONE_ENTRY: Option<Shape> = Some(Shape {
-    entries: 1,
-    words: 8,
-    width: WordWidth::Eight,
-    scope: Scope::Shared,
-});
+#[test]
+fn limits_cut_runs_and_frames_are_tested(rt: HostRuntime) {
+    let alloc = rt.alloc();
+    for (slots, limit, end) in LIMITS {
+        is_probed(&rt, alloc, slots, (None, &[], &[], *limit), end);
+    }
+    is_probed(
+        &rt,
+        alloc,
+        TESTED_LOAD,
+        (None, BYTES, &[], 1000),
+        &Ends(77, 6),
+    );
+    is_probed(
+        &rt,
+        alloc,
+        TESTED_LOAD,
+        (None, &[0; 24], &[], 1000),
+        &Ends(0, 5),
+    );
+}
 
 const SHORT_WORD: Option<Shape> = Some(Shape {
     entries: 1,
@@ -470,28 +460,6 @@ const LISTED: &[(&[u64], &[u64], End)] = &[
     ),
 ];
 
-#[test]
-fn programs_come_to_their_ends_over_lists_of_answers(rt: HostRuntime) {
-    for (slots, map, end) in OF_NINE {
-        let given = Given {
-            map: *map,
-            frame: &[],
-            answers: &[9],
-            limit: 1000,
-        };
-        is_probed(&rt, rt.alloc(), slots, given, *end);
-    }
-    for (slots, answers, end) in LISTED {
-        let given = Given {
-            map: SHORT_WORD,
-            frame: &[],
-            answers,
-            limit: 1000,
-        };
-        is_probed(&rt, rt.alloc(), slots, given, *end);
-    }
-}
-
 /// Notes the numbers from 0 to 16.
 const SEVENTEEN_NOTES: &[u64] = &[
     0xb706000000000000,
@@ -503,27 +471,16 @@ const SEVENTEEN_NOTES: &[u64] = &[
     EXIT,
 ];
 
-#[test]
-fn the_first_16_notes_are_kept(rt: HostRuntime) {
-    compare_admitted(&rt, rt.alloc(), SEVENTEEN_NOTES, None);
-    let given = Given {
-        map: None,
-        frame: &[],
-        answers: &[],
-        limit: 1000,
-    };
-    match probed(&rt, rt.alloc(), SEVENTEEN_NOTES, given) {
-        Probe::Ended(outcome) => {
-            same(&rt, (outcome.r0, outcome.steps), (0, 71), "outcome");
-            same(
-                &rt,
-                outcome.notes.as_slice(),
-                [0, 1, 2, 3, 4, 5, 6, 7, 8, 9, 10, 11, 12, 13, 14, 15].as_slice(),
-                "notes",
-            );
-        }
-        _ => assert!(rt; false),
-    }
+const NOTES: &[u64] = &[0, 1, 2, 3, 4, 5, 6, 7, 8, 9, 10, 11, 12, 13, 14, 15];
+
+/// The first 16 notes are kept.
+fn are_kept(rt: &impl Abort, alloc: Global) {
+    compare_admitted(rt, alloc, SEVENTEEN_NOTES, None);
+    let answer = probed(rt, alloc, SEVENTEEN_NOTES, (None, &[], &[], 1000));
+    let outcome = ended(rt, answer, "the program");
+    let found = (outcome.r0, outcome.steps, outcome.notes.as_slice());
+    same(rt, found, (0, 71, NOTES), "outcome, notes");
+    drop(outcome);
 }
 
 const NARROW: Option<Shape> = Some(Shape {
@@ -542,7 +499,7 @@ const WIDE: Option<Shape> = Some(Shape {
 
 /// Programs over plain maps that keep what is stored, the first number that they draw, and their
 /// result.
-const PLAIN: &[(&[u64], Option<Shape>, u64, End)] = &[
+const PLAIN: &[PlainRow] = &[
     (&[NOW, EXIT], None, 0, Ends(11, 2)),
     (&[STATIONS, EXIT], None, 0, Ends(2007, 2)),
     (&[DRAW, EXIT], None, 5, Ends(5, 2)),
@@ -592,20 +549,39 @@ const PLAIN: &[(&[u64], Option<Shape>, u64, End)] = &[
 ];
 
 /// The result of a program over plain maps, at clock 11 with 2007 stations.
-fn plain_end(rt: &impl Abort, alloc: Global, slots: &[u64], map: Option<Shape>, draw: u64) -> End {
+fn plain_end(rt: &impl Abort, alloc: Global, slots: &[u64], map: Option<Shape>, draw: u64) -> Told {
     let program = of_slots(rt, alloc, slots, map);
     let frame = Frame::new(&[]).expect(rt, "a short frame");
     let port = PlainPort::new(alloc, program.shapes(), 11, 2007, draw);
     let mut port = port.expect(rt, "memory");
     let context = Context::new([0; 32]);
-    end_of(&probe(&program, &frame, &context, &mut port, 1000))
+    let found = came_to(probe(&program, &frame, &context, &mut port, 1000));
+    drop(port);
+    drop(program);
+    found
+}
+
+/// A program, its map, the first number that it draws, and its result.
+type PlainRow = (&'static [u64], Option<Shape>, u64, End);
+
+fn is_plain(rt: &impl Abort, alloc: Global, row: &PlainRow) {
+    let (slots, map, draw, end) = row;
+    compare_admitted(rt, alloc, slots, *map);
+    let found = plain_end(rt, alloc, slots, *map, *draw);
+    same(rt, (*slots, found), (*slots, told(end)), "slots, end");
 }
 
 #[test]
-fn plain_maps_hold_what_was_stored(rt: HostRuntime) {
-    for (slots, map, draw, end) in PLAIN {
-        compare_admitted(&rt, rt.alloc(), slots, *map);
-        let found = plain_end(&rt, rt.alloc(), slots, *map, *draw);
-        same(&rt, (*slots, found), (*slots, *end), "slots, end");
+fn programs_come_to_their_ends_over_lists_and_plain_maps(rt: HostRuntime) {
+    let alloc = rt.alloc();
+    for (slots, map, end) in OF_NINE {
+        is_probed(&rt, alloc, slots, (*map, &[], &[9], 1000), end);
+    }
+    for (slots, answers, end) in LISTED {
+        is_probed(&rt, alloc, slots, (SHORT_WORD, &[], *answers, 1000), end);
+    }
+    are_kept(&rt, alloc);
+    for row in PLAIN {
+        is_plain(&rt, alloc, row);
     }
 }

@@ -2,11 +2,27 @@
 
 use bpf_decode::{Program, decode};
 use bpf_machine::Accepted;
-use bpf_regions::{Hook, Shape, Shapes};
+use bpf_regions::{Hook, Scope, Shape, Shapes, WordWidth};
 use bpf_text::assemble;
-use bpf_verifier::verify;
+use bpf_verifier::{Refusal, verify};
 use std::alloc::Global;
 use std::process::Abort;
+
+/// A map of 4 entries of 8 bytes.
+pub const FOUR: Option<Shape> = Some(Shape {
+    entries: 4,
+    words: 1,
+    width: WordWidth::Eight,
+    scope: Scope::Shared,
+});
+
+/// A map of one entry of 64 bytes.
+pub const ONE: Option<Shape> = Some(Shape {
+    entries: 1,
+    words: 8,
+    width: WordWidth::Eight,
+    scope: Scope::Shared,
+});
 
 /// The program of these bytes, over these maps.
 fn of_code(rt: &impl Abort, alloc: Global, code: &[u8], maps: &[Shape]) -> Program {
@@ -15,13 +31,19 @@ fn of_code(rt: &impl Abort, alloc: Global, code: &[u8], maps: &[Shape]) -> Progr
     decode(alloc, code, shapes).expect(rt, "a well-formed program")
 }
 
-/// The program of these slots, each with its first byte as the highest, over these maps.
-pub fn of_policy(rt: &impl Abort, alloc: Global, slots: &[u64], maps: &[Shape]) -> Program {
+/// The code of these slots, each with its first byte as the highest.
+pub fn code_of(rt: &impl Abort, alloc: Global, slots: &[u64]) -> Vec<u8> {
     let mut code = Vec::new(alloc);
     for slot in slots {
         code.extend_from_slice(&slot.to_be_bytes())
             .expect(rt, "memory");
     }
+    code
+}
+
+/// The program of such slots, over these maps.
+pub fn of_policy(rt: &impl Abort, alloc: Global, slots: &[u64], maps: &[Shape]) -> Program {
+    let code = code_of(rt, alloc, slots);
     of_code(rt, alloc, &code, maps)
 }
 
@@ -36,31 +58,33 @@ pub fn of_slots(rt: &impl Abort, alloc: Global, slots: &[u64], map: Option<Shape
 /// The program of this text.
 pub fn of_text(rt: &impl Abort, alloc: Global, text: &str, map: Option<Shape>) -> Program {
     let code = assemble(alloc, text).expect(rt, text);
-    match map {
+    let program = match map {
         Some(shape) => of_code(rt, alloc, &code, &[shape]),
         None => of_code(rt, alloc, &code, &[]),
-    }
+    };
+    drop(code);
+    program
 }
 
-/// That program, accepted for data frames.
+/// A program, accepted.
+pub fn accepted(
+    rt: &impl Abort,
+    alloc: Global,
+    program: Program,
+    hook: Hook,
+    name: &str,
+) -> Accepted {
+    verify(alloc, program, hook).ok().expect(rt, name)
+}
+
+/// The program of this text, accepted for data frames.
 pub fn admitted(rt: &impl Abort, alloc: Global, text: &str, map: Option<Shape>) -> Accepted {
-    let program = of_text(rt, alloc, text, map);
-    verify(alloc, program, Hook::Data).ok().expect(rt, text)
+    accepted(rt, alloc, of_text(rt, alloc, text, map), Hook::Data, text)
 }
 
-/// The result of verification: a budget, or the number and the slot of the refusal.
-#[derive(Clone, Copy, Debug, PartialEq)]
-pub enum Said {
-    Budget(u32),
-    Refused(u8, usize),
-}
-
-/// The result for a program for data frames.
-pub fn said_of(alloc: Global, program: Program) -> Said {
-    match verify(alloc, program, Hook::Data) {
-        Ok(accepted) => Said::Budget(accepted.budget()),
-        Err(refusal) => Said::Refused(refusal.number(), refusal.pc),
-    }
+/// The refusal of a program for data frames, if it is refused.
+pub fn refusal_of(alloc: Global, program: Program) -> Option<Refusal> {
+    verify(alloc, program, Hook::Data).err()
 }
 
 /// Parts of a text, each repeated this often.

@@ -23,10 +23,3 @@ pub fn counts(rt: &impl Abort, found: usize, wanted: usize, what: &str)
         panic!(rt; "{what}: {found}, not {wanted}");
     }
 }
-
-/// Fails at the first row whose items differ.
-pub fn all_same<T: PartialEq + Debug + Copy>(rt: &impl Abort, rows: &[(T, T)], what: &str) {
-    for (found, wanted) in rows {
-        same(rt, *found, *wanted, what);
-    }
-}

@@ -8,27 +8,34 @@ use std::process::Abort;
 pub(crate) const CODE: [u8; 16] = [0xb7, 0, 0, 0, 2, 0, 0, 0, 0x95, 0, 0, 0, 0, 0, 0, 0];
 
 /// A certificate for that code with one entry: the start states at slot 0, with a budget of two
-/// instructions.
-const SMALL: &[&[u8]] = &[
-    &[0x41, 0x50, 0x43, 0x32, 3, 2, 0],
-    &CODE,
+/// instructions. Bytes, and how many zeros follow them.
+const SMALL: &[(&[u8], u32)] = &[
+    (&[0x41, 0x50, 0x43, 0x32, 3, 2, 0], 0),
+    (&CODE, 0),
     // One entry: slot 0, budget 2, least length 0, no labels, one call frame that returns to no
     // slot.
-    &[1, 0, 0, 0, 0, 0, 2, 0, 0, 0, 0, 0, 0, 0, 1, 0, 0],
+    (&[1], 5),
+    (&[2], 7),
+    (&[1], 2),
     // R0 is unset, R1 points to the start of the frame.
-    &[0, 2, 0],
-    &[0; 52],
+    (&[0, 2], 53),
     // R2 is the frame's end, R3 points to the start of the context.
-    &[3, 2, 1],
-    &[0; 48],
+    (&[3, 2, 1], 48),
     // R4 to R9 and the stack are unset.
-    &[0; 70],
+    (&[], 70),
 ];
+
+fn push_zeros(rt: &impl Abort, bytes: &mut Vec<u8>, zeros: u32) {
+    for _zero in 0..zeros {
+        bytes.push(0).expect(rt, "memory");
+    }
+}
 
 pub(crate) fn small(rt: &impl Abort, alloc: Global) -> Vec<u8> {
     let mut bytes = Vec::new(alloc);
-    for part in SMALL {
+    for (part, zeros) in SMALL {
         bytes.extend_from_slice(part).expect(rt, "memory");
+        push_zeros(rt, &mut bytes, *zeros);
     }
     bytes
 }

@@ -1,156 +1,213 @@
 //! The known part of a call frame's stack.
 
-use crate::same::{all_same, same};
+use crate::known::Slot::{Bytes, Stored, Unset};
+use crate::known::Val::{Anywhere, Behind, One};
+use crate::known::{Slot, Val, slot_of, value};
+use crate::same::same;
 use bpf_absnum::AbsNum;
-use bpf_absval::{AbsSlot, AbsVal, Label, Rooms};
+use bpf_absval::{AbsSlot, AbsVal, Rooms};
 use bpf_stack::Stack;
 use std::alloc::Global;
 use std::process::Abort;
 
-fn number(number: u64) -> AbsSlot {
-    AbsSlot::Stored(AbsVal::Number(AbsNum::single(number)))
+/// What is done to a stack, or holds of it.
+enum Step {
+    /// A copy of it is the next stack.
+    Copied,
+    /// Each slot holds the number of its index.
+    Numbered,
+    Put(usize, Slot),
+    Forget(u16),
+    /// A slot holds this.
+    Has(usize, Slot),
+    /// Slots 0, 31 and 63 hold these.
+    HasThree(Val, Val, Val),
+    /// Each slot holds the number of its index, but this one, which holds three bytes at most.
+    IsNumberedBut(usize, Slot),
+    /// Whether it is included in that stack, and that one in it.
+    Within(usize, (bool, bool)),
 }
 
-/// A spilled frame pointer.
-fn spilled(label: Option<Label>) -> AbsSlot {
-    AbsSlot::Stored(AbsVal::Frame {
-        offset: AbsNum::full(),
-        label,
-    })
+use Step::{Copied, Forget, Has, HasThree, IsNumberedBut, Numbered, Put, Within};
+
+/// The number of a stack, and a step.
+type Line = (usize, Step);
+
+fn number(index: usize) -> AbsSlot {
+    AbsSlot::Stored(AbsVal::Number(AbsNum::single(index as u64)))
 }
 
-#[test]
-fn a_write_changes_one_stack(rt: HostRuntime) {
-    let mut first = Stack::unset(rt.alloc());
+fn number_slots(rt: &impl Abort, stack: &mut Stack) {
     for index in 0..64 {
-        first.set(index, number(index as u64)).expect(&rt, "memory");
-    }
-    let mut second = first.clone().expect(&rt, "memory");
-    second.set(40, AbsSlot::Bytes(3)).expect(&rt, "memory");
-    second.whole();
-    for index in 0..64 {
-        let left = number(index as u64);
-        same(&rt, first.get(index), left, "get");
-        same(
-            &rt,
-            second.get(index),
-            if index == 40 { AbsSlot::Bytes(3) } else { left },
-            "get",
-        );
+        stack.set(index, number(index)).expect(rt, "memory");
     }
 }
 
-#[test]
-fn what_is_known_lies_in_what_is_not(rt: HostRuntime) {
-    let rooms = Rooms::new(rt.alloc());
-    let unset = Stack::unset(rt.alloc());
-    let mut one = Stack::unset(rt.alloc());
-    one.set(63, number(7)).expect(&rt, "memory");
-    let mut two = one.clone().expect(&rt, "memory");
-    two.set(0, AbsSlot::Bytes(1)).expect(&rt, "memory");
-    let mut none_set = unset.clone().expect(&rt, "memory");
-    none_set.set(5, AbsSlot::Bytes(0)).expect(&rt, "memory");
-    all_same(
-        &rt,
+fn holds_numbers(rt: &impl Abort, stack: &Stack, but: usize, other: AbsSlot, name: &str) {
+    stack.whole();
+    for index in 0..64 {
+        let wanted = if index == but { other } else { number(index) };
+        same(rt, (index, stack.get(index)), (index, wanted), name);
+    }
+}
+
+fn stored(val: &Val) -> AbsSlot {
+    AbsSlot::Stored(value(val))
+}
+
+/// Changes a stack, or looks at it.
+fn changes(rt: &impl Abort, stack: &mut Stack, step: &Step, name: &str) {
+    match step {
+        Numbered => number_slots(rt, stack),
+        Put(index, slot) => stack.set(*index % 64, slot_of(slot)).expect(rt, "memory"),
+        Forget(label) => stack.forget(*label),
+        Has(index, slot) => {
+            let found = stack.get(*index % 64);
+            same(rt, (*index, found), (*index, slot_of(slot)), name);
+        }
+        HasThree(first, second, third) => {
+            let found = [stack.get(0), stack.get(31), stack.get(63)];
+            let wanted = [stored(first), stored(second), stored(third)];
+            same(rt, found, wanted, name);
+        }
+        IsNumberedBut(index, slot) => holds_numbers(rt, stack, *index, slot_of(slot), name),
+        Copied | Within(_, _) => {}
+    }
+}
+
+/// Takes a step at one of the stacks.
+fn steps(rt: &impl Abort, alloc: Global, stacks: &mut Vec<Stack>, line: &Line, name: &str) {
+    let (at, step) = line;
+    match step {
+        Copied => {
+            let one = stacks.get(*at).expect(rt, "a stack");
+            let copy = one.clone().expect(rt, "memory");
+            stacks.push(copy).ok().expect(rt, "memory");
+        }
+        Within(other, wanted) => {
+            let rooms = Rooms::new(alloc);
+            let one = stacks.get(*at).expect(rt, "a stack");
+            let two = stacks.get(*other).expect(rt, "a stack");
+            let there = one.is_included(two, &rooms, &rooms);
+            let back = two.is_included(one, &rooms, &rooms);
+            drop(rooms);
+            same(
+                rt,
+                (*at, *other, there, back),
+                (*at, *other, wanted.0, wanted.1),
+                name,
+            );
+        }
+        _ => changes(rt, stacks.get_mut(*at).expect(rt, "a stack"), step, name),
+    }
+}
+
+/// Begins with an unset stack, and takes each step.
+fn are_taken(rt: &impl Abort, alloc: Global, lines: &[Line], name: &str) {
+    let mut stacks = Vec::new(alloc);
+    stacks.push(Stack::unset(alloc)).ok().expect(rt, "memory");
+    for line in lines {
+        steps(rt, alloc, &mut stacks, line, name);
+    }
+    drop(stacks);
+}
+
+/// A pointer one byte past the position of label 8, and of label 9.
+const BEHIND_8: Val = Behind(8, 1);
+
+const BEHIND_9: Val = Behind(9, 1);
+
+/// What is told of stacks, the first of which is unset.
+const STORIES: &[(&str, &[Line])] = &[
+    (
+        "a write changes one stack",
         &[
-            (unset.is_included(&unset, &rooms, &rooms), true),
-            (one.is_included(&unset, &rooms, &rooms), true),
-            (unset.is_included(&one, &rooms, &rooms), false),
-            (two.is_included(&one, &rooms, &rooms), true),
-            (one.is_included(&two, &rooms, &rooms), false),
-            (unset.is_included(&none_set, &rooms, &rooms), true),
+            (0, Numbered),
+            (0, Copied),
+            (1, Put(40, Bytes(3))),
+            (0, IsNumberedBut(64, Unset)),
+            (1, IsNumberedBut(40, Bytes(3))),
         ],
+    ),
+    (
         "what is known lies in what is not",
-    );
-}
-
-#[test]
-fn one_label_is_forgotten_everywhere(rt: HostRuntime) {
-    let first = Label {
-        label: 8,
-        distance: 1,
-    };
-    let other = Label {
-        label: 9,
-        distance: 1,
-    };
-    let mut stack = Stack::unset(rt.alloc());
-    stack.set(0, spilled(Some(first))).expect(&rt, "memory");
-    stack.set(1, spilled(Some(other))).expect(&rt, "memory");
-    stack.set(2, number(8)).expect(&rt, "memory");
-    stack.set(62, spilled(Some(first))).expect(&rt, "memory");
-    let before = stack.clone().expect(&rt, "memory");
-    stack.forget(8);
-    same(&rt, before.get(62), spilled(Some(first)), "get");
-    for (index, wanted) in [
-        (0, spilled(None)),
-        (1, spilled(Some(other))),
-        (2, number(8)),
-        (30, AbsSlot::Unset),
-        (62, spilled(None)),
-    ] {
-        same(&rt, (index, stack.get(index)), (index, wanted), "slot");
-    }
-}
-
-/// A pointer one byte past the position of a label.
-fn behind(label: u16) -> AbsSlot {
-    spilled(Some(Label { label, distance: 1 }))
-}
-
-/// Three slots, of which label 8 was forgotten once: before it was stored again in the last, and label 9 in the second.
-fn made_anew(rt: &impl Abort, alloc: Global) -> Stack {
-    let mut stack = Stack::unset(alloc);
-    stack.set(0, behind(8)).expect(rt, "memory");
-    stack.set(31, behind(8)).expect(rt, "memory");
-    stack.forget(8);
-    stack.set(31, behind(9)).expect(rt, "memory");
-    stack.set(63, behind(8)).expect(rt, "memory");
-    stack
-}
-
-fn slots_hold(rt: &impl Abort, stack: &Stack, first: AbsSlot, second: AbsSlot, third: AbsSlot) {
-    same(rt, (0, stack.get(0)), (0, first), "slot");
-    same(rt, (31, stack.get(31)), (31, second), "slot");
-    same(rt, (63, stack.get(63)), (63, third), "slot");
-}
-
-#[test]
-fn labels_are_made_in_turn(rt: HostRuntime) {
-    let mut stack = made_anew(&rt, rt.alloc());
-    slots_hold(&rt, &stack, spilled(None), behind(9), behind(8));
-    let before = stack.clone().expect(&rt, "memory");
-    stack.forget(8);
-    slots_hold(&rt, &stack, spilled(None), behind(9), spilled(None));
-    stack.forget(9);
-    slots_hold(&rt, &stack, spilled(None), spilled(None), spilled(None));
-    stack.set(0, behind(8)).expect(&rt, "memory");
-    stack.forget(9);
-    slots_hold(&rt, &stack, behind(8), spilled(None), spilled(None));
-    slots_hold(&rt, &before, spilled(None), behind(9), behind(8));
-}
-
-#[test]
-fn a_forgotten_label_is_not_compared(rt: HostRuntime) {
-    let rooms = Rooms::new(rt.alloc());
-    let labelled = made_anew(&rt, rt.alloc());
-    let mut less = labelled.clone().expect(&rt, "memory");
-    less.forget(8);
-    let mut stored = labelled.clone().expect(&rt, "memory");
-    stored.set(0, behind(8)).expect(&rt, "memory");
-    let mut lost = stored.clone().expect(&rt, "memory");
-    lost.forget(8);
-    all_same(
-        &rt,
         &[
-            (labelled.is_included(&labelled, &rooms, &rooms), true),
-            (labelled.is_included(&less, &rooms, &rooms), true),
-            (less.is_included(&labelled, &rooms, &rooms), false),
-            (stored.is_included(&labelled, &rooms, &rooms), true),
-            (labelled.is_included(&stored, &rooms, &rooms), false),
-            (lost.is_included(&less, &rooms, &rooms), true),
-            (less.is_included(&lost, &rooms, &rooms), true),
+            (0, Copied),
+            (1, Put(63, Stored(One(7)))),
+            (1, Copied),
+            (2, Put(0, Bytes(1))),
+            (0, Copied),
+            (3, Put(5, Bytes(0))),
+            (0, Within(0, (true, true))),
+            (1, Within(0, (true, false))),
+            (2, Within(1, (true, false))),
+            (0, Within(3, (true, true))),
         ],
+    ),
+    (
+        "one label is forgotten everywhere",
+        &[
+            (0, Put(0, Stored(BEHIND_8))),
+            (0, Put(1, Stored(BEHIND_9))),
+            (0, Put(2, Stored(One(8)))),
+            (0, Put(62, Stored(BEHIND_8))),
+            (0, Copied),
+            (0, Forget(8)),
+            (1, Has(62, Stored(BEHIND_8))),
+            (0, Has(0, Stored(Anywhere))),
+            (0, Has(1, Stored(BEHIND_9))),
+            (0, Has(2, Stored(One(8)))),
+            (0, Has(30, Unset)),
+            (0, Has(62, Stored(Anywhere))),
+        ],
+    ),
+    // Label 8 was forgotten once: before it was stored again in the last of three slots, and label 9 in the second.
+    (
+        "labels are made in turn",
+        &[
+            (0, Put(0, Stored(BEHIND_8))),
+            (0, Put(31, Stored(BEHIND_8))),
+            (0, Forget(8)),
+            (0, Put(31, Stored(BEHIND_9))),
+            (0, Put(63, Stored(BEHIND_8))),
+            (0, HasThree(Anywhere, BEHIND_9, BEHIND_8)),
+            (0, Copied),
+            (0, Forget(8)),
+            (0, HasThree(Anywhere, BEHIND_9, Anywhere)),
+            (0, Forget(9)),
+            (0, HasThree(Anywhere, Anywhere, Anywhere)),
+            (0, Put(0, Stored(BEHIND_8))),
+            (0, Forget(9)),
+            (0, HasThree(BEHIND_8, Anywhere, Anywhere)),
+            (1, HasThree(Anywhere, BEHIND_9, BEHIND_8)),
+        ],
+    ),
+    // The second has label 8 no more, the third stored it anew, and of that the fourth lost it.
+    (
         "a forgotten label is not compared",
-    );
+        &[
+            (0, Put(0, Stored(BEHIND_8))),
+            (0, Put(31, Stored(BEHIND_8))),
+            (0, Forget(8)),
+            (0, Put(31, Stored(BEHIND_9))),
+            (0, Put(63, Stored(BEHIND_8))),
+            (0, Copied),
+            (1, Forget(8)),
+            (0, Copied),
+            (2, Put(0, Stored(BEHIND_8))),
+            (2, Copied),
+            (3, Forget(8)),
+            (0, Within(0, (true, true))),
+            (0, Within(1, (true, false))),
+            (2, Within(0, (true, false))),
+            (3, Within(1, (true, true))),
+        ],
+    ),
+];
+
+#[test]
+fn stacks_are_written_copied_and_compared(rt: HostRuntime) {
+    for (name, lines) in STORIES {
+        are_taken(&rt, rt.alloc(), lines, name);
+    }
 }

@@ -1,22 +1,20 @@
 //! Programs by their text: the results of verification, and those of runs of accepted programs on
 //! both machines.
 
-use crate::alike::compare_on_frames;
-use crate::programs::{Said, admitted, of_text, repeated, said_of};
-use crate::same::{holds, same};
+use crate::alike::{compare_on_frames, end_of};
+use crate::programs::{FOUR, ONE, admitted, of_text, refusal_of, repeated};
+use crate::same::same;
 use bpf_machine::{Accepted, ListPort, run};
-use bpf_regions::{Context, Frame, Hook, Scope, Shape, WordWidth};
-use bpf_verifier::verify;
+use bpf_regions::{Context, Frame, Shape};
 use std::alloc::Global;
 use std::process::Abort;
 
 /// R0 and the steps of a run of an accepted program, on this frame, with these answers to its
 /// queries.
-fn end_of(rt: &impl Abort, accepted: &Accepted, frame: &[u8], answers: &[u64]) -> (u64, u32) {
+fn end_on(rt: &impl Abort, accepted: &Accepted, frame: &[u8], answers: &[u64]) -> (u64, u32) {
     let frame = Frame::new(frame).expect(rt, "a short frame");
     let mut port = ListPort::new(accepted.program().shapes(), answers);
-    let outcome = run(accepted, &frame, &Context::new([0; 32]), &mut port);
-    (outcome.r0, outcome.steps)
+    end_of(run(accepted, &frame, &Context::new([0; 32]), &mut port))
 }
 
 /// A run: a frame, the answers to queries, R0 and the steps.
@@ -35,10 +33,11 @@ fn is_run(
     let accepted = admitted(rt, alloc, text, map);
     same(rt, accepted.budget(), budget, text);
     for (frame, answers, end) in runs {
-        let found = end_of(rt, &accepted, frame, answers);
+        let found = end_on(rt, &accepted, frame, answers);
         same(rt, found, *end, text);
     }
     compare_on_frames(rt, &accepted, text);
+    drop(accepted);
 }
 
 /// Arithmetic, whose budget is its length: the text, the budget, R0.
@@ -83,20 +82,6 @@ const LONG_HEADER: [u8; 27] = [
 
 /// A program, its map, its budget, and runs.
 type Admitted = (&'static str, Option<Shape>, u32, &'static [Run]);
-
-const FOUR: Option<Shape> = Some(Shape {
-    entries: 4,
-    words: 1,
-    width: WordWidth::Eight,
-    scope: Scope::Shared,
-});
-
-const ONE: Option<Shape> = Some(Shape {
-    entries: 1,
-    words: 8,
-    width: WordWidth::Eight,
-    scope: Scope::Shared,
-});
 
 const ADMITTED: &[Admitted] = &[
     // a jump over a slot
@@ -187,6 +172,13 @@ fn admitted_programs_have_their_budgets_and_ends(rt: HostRuntime) {
 /// Programs in parts, each repeated this often; the budget, and runs.
 type Built = (&'static [(&'static str, u32)], u32, &'static [Run]);
 
+fn is_built(rt: &impl Abort, alloc: Global, built: &Built) {
+    let (parts, budget, runs) = built;
+    let text = repeated(rt, alloc, parts);
+    is_run(rt, alloc, (text.as_str(), None), *budget, runs);
+    drop(text);
+}
+
 const BUILT: &[Built] = &[
     // states that join are explored once
     (
@@ -236,9 +228,8 @@ const BUILT: &[Built] = &[
 
 #[test]
 fn long_programs_have_their_budgets_and_ends(rt: HostRuntime) {
-    for (parts, budget, runs) in BUILT {
-        let text = repeated(&rt, rt.alloc(), parts);
-        is_run(&rt, rt.alloc(), (text.as_str(), None), *budget, runs);
+    for built in BUILT {
+        is_built(&rt, rt.alloc(), built);
     }
 }
 
@@ -302,23 +293,27 @@ const REFUSED: &[(&str, Option<Shape>, u8, usize)] = &[
     ),
 ];
 
+/// The number and the slot of a program's refusal.
+fn refused(rt: &impl Abort, alloc: Global, text: &str, map: Option<Shape>) -> (u8, usize) {
+    let refusal = refusal_of(alloc, of_text(rt, alloc, text, map));
+    let refusal = refusal.expect(rt, text);
+    (refusal.number(), refusal.pc)
+}
+
 /// The refusal of a program has this text.
 fn is_told(rt: &impl Abort, alloc: Global, text: &str, told: &str) {
-    match verify(alloc, of_text(rt, alloc, text, None), Hook::Data) {
-        Ok(_) => holds(rt, false, text),
-        Err(refusal) => {
-            let found = refusal.to_string(alloc).expect(rt, "memory");
-            same(rt, found.as_str(), told, text);
-        }
-    }
+    let refusal = refusal_of(alloc, of_text(rt, alloc, text, None));
+    let refusal = refusal.expect(rt, text);
+    let found = refusal.to_string(alloc).expect(rt, "memory");
+    same(rt, found.as_str(), told, text);
+    drop(found);
 }
 
 #[test]
 fn refusals_name_number_and_slot(rt: HostRuntime) {
     for (text, map, number, pc) in REFUSED {
-        let program = of_text(&rt, rt.alloc(), text, *map);
-        let said = said_of(rt.alloc(), program);
-        same(&rt, said, Said::Refused(*number, *pc), text);
+        let found = refused(&rt, rt.alloc(), text, *map);
+        same(&rt, found, (*number, *pc), text);
     }
     is_told(&rt, rt.alloc(), FALL_THROUGH, "refused 30 at 2");
 }

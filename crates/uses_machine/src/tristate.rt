@@ -1,113 +1,189 @@
 //! Tristate numbers.
 
-use crate::same::{all_same, holds, same};
+use crate::same::same;
 use bpf_tnum::Tnum;
+use std::process::Abort;
+
+/// A value and a mask.
+type Parts = (u64, u64);
 
 /// The number with this value and mask.
-fn of(value: u64, mask: u64) -> Tnum {
-    Tnum::masked(value, mask)
+fn of(parts: Parts) -> Tnum {
+    Tnum::masked(parts.0, parts.1)
 }
 
-#[test]
-fn sum_with_an_unknown_carry(rt: HostRuntime) {
-    all_same(
-        &rt,
-        &[
-            (of(0, 1).add(of(1, 0)), of(0, 3)),
-            (of(4, 1).add(of(8, 2)), of(12, 3)),
-            (of(u64::MAX, 0).add(of(1, 0)), of(0, 0)),
-            (of(u64::MAX - 1, 1).add(of(0, 1)), Tnum::full()),
-        ],
+/// What is asked of a number and another one, or a count: the value of the other one.
+enum Op {
+    Add,
+    Sub,
+    And,
+    Or,
+    Xor,
+    Mul,
+    ShiftLeft,
+    ShiftRight,
+    /// To 32 bits, or to 64.
+    Cut32,
+    Cut64,
+    Meet,
+    /// The first number, if it is included in the other.
+    Included,
+    /// The first number, if the other's value is one of its words.
+    Contains,
+}
+
+use Op::{
+    Add, And, Contains, Cut32, Cut64, Included, Meet, Mul, Or, ShiftLeft, ShiftRight, Sub, Xor,
+};
+
+fn result_of(op: &Op, a: Tnum, b: Tnum) -> Option<Tnum> {
+    match op {
+        Add => Some(a.add(b)),
+        Sub => Some(a.sub(b)),
+        And => Some(a.and(b)),
+        Or => Some(a.or(b)),
+        Xor => Some(a.xor(b)),
+        Mul => Some(a.mul(b)),
+        ShiftLeft => Some(a.shift_left((b.value() % 64) as u32)),
+        ShiftRight => Some(a.shift_right((b.value() % 64) as u32)),
+        Cut32 => Some(a.cut(32)),
+        Cut64 => Some(a.cut(64)),
+        Meet => a.meet(b),
+        Included => { if a.is_included(b) { Some(a) } else { None } }
+        Contains => { if a.contains(b.value()) { Some(a) } else { None } }
+    }
+}
+
+/// A number, what is asked, the other number, and the result, if there is one.
+type Row = (Parts, Op, Parts, Option<Parts>);
+
+fn are_found(rt: &impl Abort, rows: &[Row], what: &str) {
+    for (a, op, b, wanted) in rows {
+        let found = result_of(op, of(*a), of(*b));
+        let wanted = match wanted {
+            Some(parts) => Some(of(*parts)),
+            None => None,
+        };
+        same(rt, (*a, *b, found), (*a, *b, wanted), what);
+    }
+}
+
+const MOST: u64 = u64::MAX;
+
+/// Nothing is known.
+const FULL: Parts = (0, MOST);
+
+/// The lowest 5 bits are 0; the lowest bit is 0; the lowest 40 bits are 0.
+const LOW_5: Parts = (0, 0xffffffffffffffe0);
+
+const LOW_1: Parts = (0, 0xfffffffffffffffe);
+
+const LOW_40: Parts = (0, 0xffffff0000000000);
+
+const ROWS: &[(&str, &[Row])] = &[
+    (
         "sum with an unknown carry",
-    );
-}
-
-#[test]
-fn difference_with_an_unknown_borrow(rt: HostRuntime) {
-    all_same(
-        &rt,
         &[
-            (of(2, 0).sub(of(0, 1)), of(0, 3)),
-            (of(12, 3).sub(of(8, 0)), of(4, 3)),
-            (of(0, 0).sub(of(1, 0)), of(u64::MAX, 0)),
+            ((0, 1), Add, (1, 0), Some((0, 3))),
+            ((4, 1), Add, (8, 2), Some((12, 3))),
+            ((MOST, 0), Add, (1, 0), Some((0, 0))),
+            ((0xfffffffffffffffe, 1), Add, (0, 1), Some(FULL)),
         ],
+    ),
+    (
         "difference with an unknown borrow",
-    );
-}
-
-#[test]
-fn bits_of_both(rt: HostRuntime) {
-    all_same(
-        &rt,
         &[
-            (
-                of(0b1000, 0b0011).and(of(0b1010, 0b0100)),
-                of(0b1000, 0b0010),
-            ),
-            (
-                of(0b1000, 0b0011).or(of(0b0010, 0b0100)),
-                of(0b1010, 0b0101),
-            ),
-            (
-                of(0b1000, 0b0011).xor(of(0b1010, 0b0100)),
-                of(0b0000, 0b0111),
-            ),
+            ((2, 0), Sub, (0, 1), Some((0, 3))),
+            ((12, 3), Sub, (8, 0), Some((4, 3))),
+            ((0, 0), Sub, (1, 0), Some((MOST, 0))),
         ],
+    ),
+    (
         "bits of both",
-    );
-}
-
-#[test]
-fn low_zeros(rt: HostRuntime) {
-    all_same(
-        &rt,
         &[
-            (of(0, 0xf8).mul(of(4, 0)), Tnum::low(5)),
-            (Tnum::low(40).mul(Tnum::low(40)), of(0, 0)),
-            (of(0, 0xf8).shift_left(2), of(0, !0x1f)),
-            (of(0, 0xf8).shift_right(2), Tnum::low(1)),
-            (of(0, 0xf8).shift_right(3), Tnum::full()),
+            (
+                (0b1000, 0b0011),
+                And,
+                (0b1010, 0b0100),
+                Some((0b1000, 0b0010)),
+            ),
+            (
+                (0b1000, 0b0011),
+                Or,
+                (0b0010, 0b0100),
+                Some((0b1010, 0b0101)),
+            ),
+            (
+                (0b1000, 0b0011),
+                Xor,
+                (0b1010, 0b0100),
+                Some((0b0000, 0b0111)),
+            ),
         ],
+    ),
+    (
         "low zeros",
-    );
-    same(&rt, of(0, 0xf8).trailing_zeros(), 3, "trailing zeros");
-    same(&rt, of(0, 0).trailing_zeros(), 64, "trailing zeros");
-}
+        &[
+            ((0, 0xf8), Mul, (4, 0), Some(LOW_5)),
+            (LOW_40, Mul, LOW_40, Some((0, 0))),
+            ((0, 0xf8), ShiftLeft, (2, 0), Some(LOW_5)),
+            ((0, 0xf8), ShiftRight, (2, 0), Some(LOW_1)),
+            ((0, 0xf8), ShiftRight, (3, 0), Some(FULL)),
+        ],
+    ),
+    (
+        "low bits",
+        &[
+            ((0x100000001, 0x1000000010), Cut32, FULL, Some((1, 0x10))),
+            ((7, 8), Cut64, FULL, Some((7, 8))),
+        ],
+    ),
+    (
+        "meeting",
+        &[
+            (
+                (0b0100, 0b0011),
+                Meet,
+                (0b0001, 0b0110),
+                Some((0b0101, 0b0010)),
+            ),
+            ((1, 0), Meet, (0, 2), None),
+        ],
+    ),
+    (
+        "inclusion",
+        &[
+            ((5, 0), Included, (4, 3), Some((5, 0))),
+            ((4, 3), Included, (5, 0), None),
+            ((8, 1), Included, (4, 3), None),
+        ],
+    ),
+    (
+        "members",
+        &[
+            ((4, 3), Contains, (6, 0), Some((4, 3))),
+            ((4, 3), Contains, (8, 0), None),
+            ((8, 0), Contains, (8, 0), Some((8, 0))),
+        ],
+    ),
+];
 
 #[test]
-fn low_bits(rt: HostRuntime) {
-    same(
-        &rt,
-        of(0x1_0000_0001, 0x10_0000_0010).cut(32),
-        of(1, 0x10),
-        "cut",
-    );
-    same(&rt, of(7, 8).cut(64), of(7, 8), "cut");
-}
-
-#[test]
-fn meeting(rt: HostRuntime) {
-    same(
-        &rt,
-        of(0b0100, 0b0011).meet(of(0b0001, 0b0110)),
-        Some(of(0b0101, 0b0010)),
-        "of",
-    );
-    same(&rt, of(1, 0).meet(of(0, 2)), None, "of");
-}
-
-#[test]
-fn inclusion(rt: HostRuntime) {
-    holds(&rt, of(5, 0).is_included(of(4, 3)), "of");
-    holds(&rt, !of(4, 3).is_included(of(5, 0)), "of");
-    holds(&rt, !of(8, 1).is_included(of(4, 3)), "of");
-}
-
-#[test]
-fn members(rt: HostRuntime) {
-    holds(&rt, of(4, 3).contains(6), "contains");
-    holds(&rt, !of(4, 3).contains(8), "contains");
-    holds(&rt, Tnum::single(8).contains(8), "contains");
-    same(&rt, Tnum::new(4, 3).value(), 4, "value");
-    same(&rt, Tnum::new(4, 3).mask(), 3, "mask");
+fn operations_have_their_results(rt: HostRuntime) {
+    for (what, rows) in ROWS {
+        are_found(&rt, rows, what);
+    }
+    let made = [
+        Tnum::low(5),
+        Tnum::low(1),
+        Tnum::low(40),
+        Tnum::full(),
+        Tnum::single(8),
+    ];
+    let wanted = [of(LOW_5), of(LOW_1), of(LOW_40), of(FULL), of((8, 0))];
+    same(&rt, made, wanted, "low, full, single");
+    let zeros = [of((0, 0xf8)).trailing_zeros(), of((0, 0)).trailing_zeros()];
+    same(&rt, zeros, [3, 64], "trailing zeros");
+    let four = Tnum::new(4, 3);
+    same(&rt, (four.value(), four.mask()), (4, 3), "value, mask");
 }

@@ -1,125 +1,132 @@
 //! Operations on words, at their limits.
 
-use crate::same::{all_same, holds, same};
+use crate::same::same;
 use bpf_words::*;
 
 const MINUS_ONE: u64 = u64::MAX;
 
 const LEAST: u64 = 1 << 63;
 
-#[test]
-fn words_of_numbers(rt: HostRuntime) {
-    same(&rt, word_of_int(-1), MINUS_ONE, "word of int");
-    same(&rt, low_half(0x1_2345_6789), 0x2345_6789, "low half");
-    same(&rt, negated_64(1), MINUS_ONE, "negated 64");
-    same(&rt, negated_32(1), u32::MAX, "negated 32");
-}
+/// The words of -4, -8, -13 and -128.
+const MINUS_4: u64 = 0xfffffffffffffffc;
+
+const MINUS_8: u64 = 0xfffffffffffffff8;
+
+const MINUS_13: u64 = 0xfffffffffffffff3;
+
+const MINUS_128: u64 = 0xffffffffffffff80;
+
+/// Those of 32 bits.
+const SHORT_4: u32 = 0xfffffffc;
+
+const SHORT_8: u32 = 0xfffffff8;
+
+const SHORT_13: u32 = 0xfffffff3;
 
 #[test]
-fn division_by_zero(rt: HostRuntime) {
-    all_same(
-        &rt,
-        &[
-            (quotient_64(7, 0), 0),
-            (remainder_64(7, 0), 7),
-            (signed_quotient_64(7, 0), 0),
-            (signed_remainder_64(7, 0), 7),
-        ],
-        "division by zero",
-    );
+fn words_of_64_bits(rt: HostRuntime) {
+    let words = [
+        word_of_int(-1),
+        word_of_int(-4),
+        word_of_int(-8),
+        word_of_int(-13),
+    ];
     same(
         &rt,
-        (quotient_32(7, 2), remainder_32(7, 2)),
-        (3, 1),
-        "quotient 32",
+        words,
+        [MINUS_ONE, MINUS_4, MINUS_8, MINUS_13],
+        "word of int",
     );
-}
-
-#[test]
-fn signed_division_truncates(rt: HostRuntime) {
-    all_same(
+    let words = [word_of_int(-128), negated_64(1)];
+    same(
         &rt,
-        &[
-            (signed_quotient_64(LEAST, MINUS_ONE), LEAST),
-            (signed_remainder_64(LEAST, MINUS_ONE), 0),
-            (signed_remainder_64(word_of_int(-13), 3), MINUS_ONE),
-        ],
+        words,
+        [MINUS_128, MINUS_ONE],
+        "word of int, negated 64",
+    );
+    let found = [
+        quotient_64(7, 0),
+        remainder_64(7, 0),
+        signed_quotient_64(7, 0),
+        signed_remainder_64(7, 0),
+    ];
+    same(&rt, found, [0, 7, 0, 7], "division by zero");
+    let found = [
+        signed_quotient_64(LEAST, MINUS_ONE),
+        signed_remainder_64(LEAST, MINUS_ONE),
+        signed_remainder_64(MINUS_13, 3),
+    ];
+    same(
+        &rt,
+        found,
+        [LEAST, 0, MINUS_ONE],
         "signed division truncates",
     );
-    same(
-        &rt,
-        signed_quotient_32(negated_32(13), 3),
-        negated_32(4),
-        "signed quotient 32",
-    );
-    same(
-        &rt,
-        signed_remainder_32(negated_32(13), 3),
-        u32::MAX,
-        "signed remainder 32",
-    );
-}
-
-#[test]
-fn shifts_copy_the_sign(rt: HostRuntime) {
-    same(
-        &rt,
-        arithmetic_shift_right_64(word_of_int(-8), 65),
-        word_of_int(-4),
-        "arithmetic shift right 64",
-    );
-    same(
-        &rt,
-        arithmetic_shift_right_32(negated_32(8), 33),
-        negated_32(4),
-        "arithmetic shift right 32",
-    );
-    same(
-        &rt,
+    let found = [
+        arithmetic_shift_right_64(MINUS_8, 65),
         sign_extended_64(8, 0xff80),
-        word_of_int(-128),
-        "sign extended 64",
-    );
+    ];
     same(
         &rt,
-        sign_extended_32(16, 0x1_8000),
-        0xffff_8000,
-        "sign extended 32",
+        found,
+        [MINUS_4, MINUS_128],
+        "arithmetic shift right 64, sign extended 64",
     );
-}
-
-#[test]
-fn signed_words_in_order(rt: HostRuntime) {
-    holds(
-        &rt,
-        signed_order_64(MINUS_ONE) < signed_order_64(0),
-        "signed order 64",
-    );
-    holds(
-        &rt,
-        signed_order_32(u32::MAX) < signed_order_32(0),
-        "signed order 32",
-    );
-}
-
-#[test]
-fn bytes_turned_round(rt: HostRuntime) {
-    same(
-        &rt,
+    let in_order = signed_order_64(MINUS_ONE) < signed_order_64(0);
+    same(&rt, in_order, true, "signed order 64");
+    let found = [
         bytes_swapped(16, 0x1122_3344_5566_7788),
-        34935,
-        "bytes swapped",
-    );
-    same(
-        &rt,
         bytes_swapped(32, 0x0000_0000_5566_7788),
-        0x8877_6655,
-        "bytes swapped",
-    );
+        bytes_swapped(64, 0x1122_3344_5566_7788),
+    ];
     same(
         &rt,
-        bytes_swapped(64, 0x1122_3344_5566_7788),
-        0x8877_6655_4433_2211,
+        found,
+        [34935, 0x8877_6655, 0x8877_6655_4433_2211],
         "bytes swapped",
     );
+}
+
+#[test]
+fn words_of_32_bits(rt: HostRuntime) {
+    let found = [
+        low_half(0x1_2345_6789),
+        quotient_32(7, 2),
+        remainder_32(7, 2),
+    ];
+    same(
+        &rt,
+        found,
+        [0x2345_6789, 3, 1],
+        "low half, quotient 32, remainder 32",
+    );
+    let found = [negated_32(1), negated_32(4), negated_32(8), negated_32(13)];
+    same(
+        &rt,
+        found,
+        [u32::MAX, SHORT_4, SHORT_8, SHORT_13],
+        "negated 32",
+    );
+    let found = [
+        signed_quotient_32(SHORT_13, 3),
+        signed_remainder_32(SHORT_13, 3),
+    ];
+    same(
+        &rt,
+        found,
+        [SHORT_4, u32::MAX],
+        "signed quotient 32, signed remainder 32",
+    );
+    let found = [
+        arithmetic_shift_right_32(SHORT_8, 33),
+        sign_extended_32(16, 0x1_8000),
+    ];
+    same(
+        &rt,
+        found,
+        [SHORT_4, 0xffff_8000],
+        "arithmetic shift right 32, sign extended 32",
+    );
+    let in_order = signed_order_32(u32::MAX) < signed_order_32(0);
+    same(&rt, in_order, true, "signed order 32");
 }
