@@ -87,7 +87,7 @@ pub struct Form {
     scope: Option<Scope>,
 }
 
-const FORMS: [Form; 11] = [
+static FORMS: [Form; 11] = [
     Form {
         keyword: "frame",
         operands: &[Operand::Digits],
@@ -146,7 +146,7 @@ const FORMS: [Form; 11] = [
 ];
 
 /// The lines of `apd live` alone that ask to be told something.
-const QUESTIONS: [Form; 6] = [
+static QUESTIONS: [Form; 6] = [
     Form {
         keyword: "help",
         operands: &[],
@@ -180,14 +180,14 @@ const QUESTIONS: [Form; 6] = [
 ];
 
 /// The line that ends `apd live`.
-const QUIT: [Form; 1] = [Form {
+static QUIT: [Form; 1] = [Form {
     keyword: "quit",
     operands: &[],
     scope: None,
 }];
 
 /// The first bytes of capture files.
-const CAPTURES: [&[u8]; 5] = [
+static CAPTURES: [&[u8]; 5] = [
     b"\xd4\xc3\xb2\xa1",
     b"\xa1\xb2\xc3\xd4",
     b"\x4d\x3c\xb2\xa1",
