@@ -138,6 +138,18 @@ call_unset fs k b s t le e h =
     ap (λ (x : View). stack_of x k) (h ∙ ap (λ (x : View). called x 0 b) e)
     ∙ ap (λ (n : ℕ). stack_of (called (built (take k fs)) 0 b) n) (sym (taken fs k le)) ∙ called_unset (take k fs) b
 
+called_registers : (rs : List AbsVal) (depth : ℕ) → length (callee_registers rs depth) ≡ length rs
+called_registers rs depth = length-set _ _ _ ∙ length-set _ _ _ ∙ length-set _ _ _ ∙ length-set _ _ _ ∙ length-set _ _ _ ∙ length-set _ _ _
+
+pub called_eleven : (fs : List Frame) (k b : ℕ) (s t : View) → 1 ≤ k → k ≤ length fs → All (λ f. length f.registers ≡ 10) fs → s ≡ built (take k fs) → t ≡ called s 0 b → length t.registers ≡ 11
+called_eleven fs k b s t one le ten e h =
+    let len : length (take k fs) ≡ k = taken fs k le in
+    let some : 1 ≤ length (take k fs) = omega (arith, one, len) in
+    let newest = newest_ten (take k fs) some (All-take (λ f. length f.registers ≡ 10) k fs ten) in
+    let end : List AbsVal = stack_end (length (take k fs) - 1) ∷ [] in
+    let eleven : length (newest_registers (take k fs) ++ end) ≡ 11 = let all = length-append (newest_registers (take k fs)) end in omega (arith, newest, all) in
+    ap (λ (x : View). length x.registers) h ∙ called_registers s.registers (length s.frames) ∙ ap (λ (x : View). length x.registers) e ∙ eleven
+
 pub goes_on : (fs : List Frame) (k : ℕ) (s t u : View) (f g : Frame) → 1 ≤ k → k < length fs → All (λ f. length f.registers ≡ 10) fs → g ≡ get_or fs k g →
     s ≡ built (take k fs) → t ≡ called s 0 (get_or fs k f).return_slot → u ≡ filled t k g → u ≡ built (take (k + 1) fs)
 goes_on fs k s t u f g one lt ten gis e h w =

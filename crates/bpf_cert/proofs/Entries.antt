@@ -19,7 +19,7 @@ use Rattle.bpf_cert_format.specs.Fits.{FitsEntry, IsMainFirst}
 use Rattle.bpf_cert_format.specs.Views.{EntryView}
 use Rattle.bpf_cert.specs.declared.claim.Claim.{Claim}
 use Rattle.bpf_cert.specs.Covered.{Includes, LeadsWithin, BeginsWithin, AreCovered}
-use Rattle.bpf_cert.specs.Laws.{CoveredIsSafe}
+use Rattle.bpf_cert.proofs.Safely.{covered_is_safe}
 use Rattle.bpf_cert.specs.States.{state_of, frames_after, claim_of}
 use Rattle.bpf_cert.specs.Steps.{Tells}
 use Rattle.bpf_cert.specs.Certified.{FollowsCall, StandsWell, Shows, Finds, KeepsWithin}
@@ -124,6 +124,6 @@ shown c es cs o (Some b) same stand covers small = record {
   small = small.1;
 }
 
-pub shown_safe : CoveredIsSafe → (c : Code) (cs : List Claim) (o r : Option ℕ) → IsWhole c → AreShapes c.shapes → All (λ e. IsView e.state) cs → Covers c cs o → KeepsWithin (2 ^ 22) o r → IfSome r (Safe c.slots c.shapes)
-shown_safe law c cs o None whole shapes views covers small = tt
-shown_safe law c cs o (Some b) whole shapes views covers small = law c cs b whole shapes views (subst (Covers c cs) small.0 covers)
+pub shown_safe : (c : Code) (cs : List Claim) (o r : Option ℕ) → IsWhole c → AreShapes c.shapes → All (λ e. IsView e.state) cs → Covers c cs o → KeepsWithin (2 ^ 22) o r → IfSome r (Safe c.slots c.shapes)
+shown_safe c cs o None whole shapes views covers small = tt
+shown_safe c cs o (Some b) whole shapes views covers small = covered_is_safe c cs b whole shapes views (subst (Covers c cs) small.0 covers)

@@ -9,3 +9,4 @@ pub mod Roomy
 pub mod Free
 pub mod Entries
 pub mod Uncertified
+pub mod Spelled

@@ -88,9 +88,7 @@ fn with_frames(alloc: Global, blank: &AbsState, frames: &[Frame]) -> Result<AbsS
     let mut state = blank.clone()?;
     fill(&mut state, 0, &frames[0])?;
     for k in 1..frames.len() {
-        state.whole();
         state.call(alloc, 0, frames[k].return_slot)?;
-        state.whole();
         fill(&mut state, k, &frames[k])?;
     }
     Ok(state)

@@ -14,7 +14,6 @@ use crate::widening::widened;
 use bpf_cert_format::{Certificate, Leaf, WriteFault, write};
 use bpf_decode::{Program, encode};
 use bpf_machine::Accepted;
-use bpf_plain::laws::standing_law;
 use bpf_prune::{Entry as Finished, Work};
 use bpf_regions::Hook;
 use bpf_verifier::{Fault, Refusal, StateLimit, explore_counted};
@@ -116,6 +115,27 @@ fn proved(
     }
 }
 
+/// The certificate that finished states give a program, if it shows that the program is safe.
+fn made(
+    alloc: Global,
+    program: &Program,
+    hook: Hook,
+    finished: &[Finished],
+    work: &mut Work,
+) -> Result<Vec<u8>, Refusal>
+    ensures covered { IfOk result (λ made. (b : ℕ) × Covered program.now hook made.items b) }
+    ensures start { IfErr result (λ e. e.pc ≡ 0) }
+    ensures why { IfErr result (λ e. IsUnmade work.new e.fault) }
+{
+    match entries_of(alloc, program, finished, work) {
+        Err(stop) => Err(unfound(stop)),
+        Ok(entries) => match written(alloc, program, hook, entries) {
+            Err(fault) => Err(unwritten(fault)),
+            Ok(bytes) => proved(alloc, program, hook, bytes, work),
+        },
+    }
+}
+
 /// Makes a certificate for an admitted program and its hook, from the states that `explore` lists, without needless
 /// ones. The certificate has been checked: `check` accepts it, unless memory is lacking.
 ///
@@ -138,8 +158,8 @@ pub fn certificate_within(
     ensures certificate { IfOk result (λ bytes. IsCertificate accepted.now bytes.items) }
     ensures refused { IfErr result (IsUncertified accepted.now.code limit) }
 {
-    limit.known();
-    let mut work = Work::within(u64::MAX);
+    let limits = limit.alone();
+    let mut work = Work::within(limits.units());
     certificate_counted(alloc, accepted, limit, &mut work)
 }
 
@@ -162,19 +182,8 @@ pub fn certificate_counted(
     let program = accepted.program();
     let hook = accepted.hook();
     program.whole();
-    standing_law();
     let finished = explore_counted(alloc, program, limit, work)?;
-    let found = entries_of(alloc, program, &finished, work);
+    let certificate = made(alloc, program, hook, finished.as_slice(), work);
     work.known();
-    match found {
-        Err(stop) => Err(unfound(stop)),
-        Ok(entries) => match written(alloc, program, hook, entries) {
-            Err(fault) => Err(unwritten(fault)),
-            Ok(bytes) => {
-                let made = proved(alloc, program, hook, bytes, work);
-                work.known();
-                made
-            }
-        },
-    }
+    certificate
 }

@@ -17,11 +17,10 @@ ghost use Rattle.bpf_cert.specs.Certified.{KeepsWithin, Covered, Refuses, Answer
 use crate::claims::Claims;
 use crate::coverage::{begins, covered_budget};
 use crate::fault::{CertFault, unread};
-use crate::laws::covered_law;
 use crate::limit::{Meter, Stop, Unlimited, WithinFault};
 use crate::source::Source;
 use bpf_cert_format::{Certificate, Entry, Frame, Kind, Leaf, read};
-use bpf_decode::{Program, encode, spelling_law};
+use bpf_decode::{Program, encode};
 use bpf_insn::Insn;
 use bpf_machine::Accepted;
 use bpf_prune::Work;
@@ -43,7 +42,6 @@ fn is_for(
 ) -> Result<bool, AllocError>
     ensures is { IfOk result (λ told. Tells told (IsFor program.now hook certificate.now)) }
 {
-    spelling_law();
     if certificate.hook() != hook {
         return Ok(false);
     }
@@ -148,14 +146,12 @@ fn add_claim(
     match leaf.kind() {
         Kind::Read(entry) => {
             let claim = source.claim(alloc, maps, entry)?;
-            claim.state.whole();
             claims.push(claim)?;
             Ok(())
         }
         Kind::Spelled(spelled) => {
             let entry = spelled.entry(alloc)?;
             let claim = source.claim(alloc, spelled.maps(), &entry)?;
-            claim.state.whole();
             if source.has_room() {
                 claims.push(claim)?;
                 return Ok(());
@@ -221,7 +217,6 @@ fn shown_budget<M: Meter>(
     let claims = claims_of(alloc, program, entries, room)?;
     program.whole();
     program.shapes().whole();
-    covered_law();
     let budget = covered_budget(program, &claims, work)?;
     Ok(small(budget))
 }

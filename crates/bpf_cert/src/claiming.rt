@@ -2,6 +2,7 @@
 
 ghost use Rattle.std.specs.Prelude.{◌≡◌, length, take};
 ghost use Rattle.std.specs.List.{All, list_all};
+ghost use Rattle.bpf_absstate.specs.WellFormed.{IsView};
 ghost use Rattle.bpf_cert_format.specs.Fits.{FitsEntry};
 ghost use Rattle.bpf_cert.specs.States.{callers_free as free, claim_of, state_of as describes};
 ghost use Rattle.bpf_rules.specs.Operands.{is_unset as unset};
@@ -53,7 +54,9 @@ pub(crate) fn claim(maps: usize, state: AbsState, entry: &Entry) -> Claim
     requires described { state ≡ describes entry.now }
     requires fits { FitsEntry maps entry.now }
     ensures is { result ≡ claim_of entry.now }
+    ensures whole { IsView result.state }
 {
+    state.whole();
     Claim {
         state,
         budget: entry.budget(),

@@ -1,6 +1,7 @@
 //! Builds claims from entries, as long as they take little memory.
 
 ghost use Rattle.std.specs.Prelude.{◌≡◌, IfOk};
+ghost use Rattle.bpf_absstate.specs.WellFormed.{IsView};
 ghost use Rattle.bpf_cert_format.specs.Fits.{FitsEntry};
 ghost use Rattle.bpf_cert.specs.States.{claim_of};
 
@@ -54,6 +55,7 @@ impl Source {
     ) -> Result<Claim, AllocError>
         requires fits { FitsEntry maps entry.now }
         ensures is { IfOk result (λ claim. claim ≡ claim_of entry.now) }
+        ensures whole { IfOk result (λ claim. IsView claim.state) }
     {
         self.room = self.room.saturating_sub(entry.weight());
         let state = state_of(alloc, maps, &self.blank, entry)?;

@@ -1,2 +1,2 @@
 mod Newest
-mod Keeping
+pub mod Keeping

@@ -1,4 +1,4 @@
-//! What is left of states that are kept one after another. The function does nothing; a caller's proof uses its contract.
+//! What is left of states that are kept one after another. The function does nothing; its contract is a law.
 
 ghost use Rattle.bpf_prune.specs.Keeping.{KeepsNewest, LeavesOut};
 

@@ -121,7 +121,7 @@ impl Work {
         ensures none { OnErr result (self.new.examined ≡ self.old.examined) }
         ensures passed { OnErr result (HasPassed self.new) }
     {
-        self.known();
+        let _ = &self.units;
         self.spend(parts_of(state))?;
         self.examined += 1;
         Ok(())
@@ -139,7 +139,7 @@ impl Work {
         ensures none { OnErr result (self.new.remade ≡ self.old.remade) }
         ensures passed { OnErr result (HasPassed self.new) }
     {
-        self.known();
+        let _ = &self.units;
         self.spend(parts_of(state))?;
         self.remade += 1;
         Ok(())
@@ -157,7 +157,7 @@ impl Work {
         ensures none { OnErr result (self.new.compared ≡ self.old.compared) }
         ensures passed { OnErr result (HasPassed self.new) }
     {
-        self.known();
+        let _ = &self.units;
         self.spend(1)?;
         self.compared += 1;
         Ok(())

@@ -5,4 +5,4 @@ mod Helpers
 mod Branches
 mod Steps
 mod Calls
-mod Flow
+pub mod Flow

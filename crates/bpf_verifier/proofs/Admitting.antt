@@ -63,6 +63,16 @@ explains program limits (Err e) ample h = h
 pub ample_most : (states : ℕ) → IsStateLimit states → IsAmple (record { states = states; work = None })
 ample_most states limit = omega (arith, limit.0, limit.1)
 
+-- a limit of states alone
+pub exacts_alone : {X : Type 0} (program : Code) (states : ℕ) (limits : Limits) (r : Result X Refusal) → limits ≡ record { states = states; work = None } → IsStateLimit states → IfErr r (IsRefusalWithin program limits)
+    → IfErr r (IsRefusal program states)
+exacts_alone program states limits r e limit h = exacts program (record { states = states; work = None }) r (ample_most states limit) (subst (λ (l : Limits). IfErr r (IsRefusalWithin program l)) e h)
+
+pub explains_alone : {E : Type 0} (program : Code) (states : ℕ) (limits : Limits) (r : Result Explanation E) → limits ≡ record { states = states; work = None } → IsStateLimit states
+    → IfOk r (λ x. IfErr x.verdict (IsRefusalWithin program limits)) → IfOk r (λ x. IfErr x.verdict (IsRefusal program states))
+explains_alone program states limits r e limit h =
+    explains program (record { states = states; work = None }) r (ample_most states limit) (subst (λ (l : Limits). IfOk r (λ x. IfErr x.verdict (IsRefusalWithin program l))) e h)
+
 pub withins : {X : Type 0} (program : Code) (limits : Limits) (w : Tally) (r : Result X Refusal) → IsSpent limits.states (unspent (units_of limits.work)) w → CountsAll w → IfErr r (IsRefusalAfter program limits.states w) → IfErr r (IsDue program limits.states (unspent (units_of limits.work)) w)
     → IfErr r (IsRefusalWithin program limits)
 withins program limits w (Ok x) spent counted after due = after

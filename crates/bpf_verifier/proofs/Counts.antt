@@ -15,7 +15,7 @@ unfolding weight
 weight_push [] f after = refl
 weight_push (g ∷ fs) f after = let k = weight_push fs f after in omega (arith, k)
 
-weight_more : (fs : List Frame) (after : ℕ) → weight fs (after + 1) ≡ weight fs after + 1
+pub weight_more : (fs : List Frame) (after : ℕ) → weight fs (after + 1) ≡ weight fs after + 1
 unfolding weight
 weight_more [] after = refl
 weight_more (g ∷ fs) after = let k = weight_more fs after in omega (arith, k)
@@ -62,20 +62,28 @@ Counted-over items fs new f g after table visits e e2 before h le =
       finished = weaker (λ x. x.budget + weight items after ≤ visits) (λ x. x.budget + weight new 0 ≤ visits) (λ x q. omega (arith, q, n, m)) table h.finished;
     }
 
--- one more frame, for one more visit
-pub Counted-push : (fs new : List Frame) (f : Frame) (after : ℕ) (table : List (List Entry)) (visits : ℕ) → new ≡ fs ++ f ∷ [] → f.before ≡ after → f.best ≡ 0 → IsCounted fs after table visits →
-    weight fs after ≤ visits → IsCounted new 0 table (visits + 1)
-Counted-push fs new f after table visits e before none h le =
+-- one more frame, whose own state was on the path already
+pub Counted-frame : (fs new : List Frame) (f : Frame) (after : ℕ) (table : List (List Entry)) (visits : ℕ) → new ≡ fs ++ f ∷ [] → f.before ≡ after → f.best ≡ 0 → IsCounted fs (after + 1) table visits →
+    weight fs (after + 1) ≤ visits → IsCounted new 0 table visits
+Counted-frame fs new f after table visits e before none h le =
     let same : weight fs f.before ≡ weight fs after = ap (weight fs) before in
     let m0 = weight_of new fs f 0 e in
-    let n : weight new 0 ≡ weight fs after + 1 = omega (arith, m0, same) in
-    let small : f.best + weight new 0 ≤ visits + 1 = omega (arith, none, n, le) in
+    let more = weight_more fs after in
+    let n : weight new 0 ≡ weight fs (after + 1) = omega (arith, m0, same, more) in
+    let small : f.best + weight new 0 ≤ visits = omega (arith, none, n, le) in
     record {
-      frames = subst (All (λ x. x.best + weight new 0 ≤ visits + 1)) (sym e)
-          (All-push (λ x. x.best + weight new 0 ≤ visits + 1) fs f
-          (All-weaker (λ x. x.best + weight fs after ≤ visits) (λ x. x.best + weight new 0 ≤ visits + 1) (λ x k. omega (arith, k, n)) fs h.frames) small);
-      finished = weaker (λ x. x.budget + weight fs after ≤ visits) (λ x. x.budget + weight new 0 ≤ visits + 1) (λ x k. omega (arith, k, n)) table h.finished;
+      frames = subst (All (λ x. x.best + weight new 0 ≤ visits)) (sym e)
+          (All-push (λ x. x.best + weight new 0 ≤ visits) fs f
+          (All-weaker (λ x. x.best + weight fs (after + 1) ≤ visits) (λ x. x.best + weight new 0 ≤ visits) (λ x k. omega (arith, k, n)) fs h.frames) small);
+      finished = weaker (λ x. x.budget + weight fs (after + 1) ≤ visits) (λ x. x.budget + weight new 0 ≤ visits) (λ x k. omega (arith, k, n)) table h.finished;
     }
+
+pub weight_frame : (fs : List Frame) (f : Frame) (after visits : ℕ) → f.before ≡ after → weight fs (after + 1) ≤ visits → weight (fs ++ f ∷ []) 0 ≤ visits
+weight_frame fs f after visits before le =
+    let same : weight fs f.before ≡ weight fs after = ap (weight fs) before in
+    let n = weight_push fs f 0 in
+    let more = weight_more fs after in
+    omega (arith, same, n, more, le)
 
 -- one more state with one successor, for one more visit
 pub Counted-on : (fs : List Frame) (after : ℕ) (table : List (List Entry)) (visits : ℕ) → IsCounted fs after table visits → IsCounted fs (after + 1) table (visits + 1)
@@ -89,11 +97,13 @@ Counted-on fs after table visits h =
 pub paid_on : (fs : List Frame) (after visits : ℕ) → weight fs after ≤ visits → weight fs (after + 1) ≤ visits + 1
 paid_on fs after visits le = let n = weight_more fs after in omega (arith, n, le)
 
-pub Counted-more : (fs : List Frame) (after : ℕ) (table : List (List Entry)) (visits : ℕ) → IsCounted fs after table visits → IsCounted fs after table (visits + 1)
-Counted-more fs after table visits h =
+-- without the state after the path
+pub Counted-less : (fs : List Frame) (after : ℕ) (table : List (List Entry)) (visits : ℕ) → IsCounted fs (after + 1) table visits → IsCounted fs after table visits
+Counted-less fs after table visits h =
+    let n = weight_more fs after in
     record {
-      frames = All-weaker (λ x. x.best + weight fs after ≤ visits) (λ x. x.best + weight fs after ≤ visits + 1) (λ x k. omega (arith, k)) fs h.frames;
-      finished = weaker (λ x. x.budget + weight fs after ≤ visits) (λ x. x.budget + weight fs after ≤ visits + 1) (λ x k. omega (arith, k)) table h.finished;
+      frames = All-weaker (λ x. x.best + weight fs (after + 1) ≤ visits) (λ x. x.best + weight fs after ≤ visits) (λ x k. omega (arith, k, n)) fs h.frames;
+      finished = weaker (λ x. x.budget + weight fs (after + 1) ≤ visits) (λ x. x.budget + weight fs after ≤ visits) (λ x k. omega (arith, k, n)) table h.finished;
     }
 
 -- one more finished state

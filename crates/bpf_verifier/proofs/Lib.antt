@@ -11,3 +11,5 @@ pub mod Folding
 pub mod Finishing
 pub mod Tracing
 pub mod Admitting
+pub mod Examining
+pub mod Stepping

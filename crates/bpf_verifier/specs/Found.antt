@@ -1,20 +1,24 @@
 -- What an exploration has found so far.
-use Rattle.std.specs.Prelude.{◌≡◌, ℕ, List, [], length, replicate, Option}
+use Rattle.std.specs.Prelude.{◌≡◌, ◌≤◌, ◌+◌, ◌^◌, ℕ, List, [], length, replicate, Option}
 use Rattle.bpf_insn.specs.declared.insn.Insn.{Insn}
-use Rattle.bpf_decode.specs.Program.{Code}
+use Rattle.bpf_decode.specs.Program.{Code, IsWhole}
 use Rattle.bpf_model.specs.State.{Setting}
 use Rattle.bpf_absstate.specs.View.{View}
 use Rattle.bpf_verifier.specs.declared.exploration.Exploration.{Exploration}
 use Rattle.bpf_verifier.specs.declared.exploration.Unwound.{Unwound}
 use Rattle.bpf_verifier.specs.Clear.{AreClear, IsClearOn}
-use Rattle.bpf_verifier.specs.Counting.{IsCounted, IsPaid}
+use Rattle.bpf_verifier.specs.Counting.{IsCounted, IsPaid, weight}
 use Rattle.bpf_prune.specs.Keeping.{with_entries}
 use Rattle.bpf_verifier.specs.Finishing.{finished_of}
-use Rattle.bpf_verifier.specs.Path.{Linked, AreBegun}
+use Rattle.bpf_verifier.specs.Path.{Linked, AreBegun, IsBegun, StandsIn}
 use Rattle.bpf_verifier.specs.Safety.{LeadsSafely, IsExplored, AreSafe, IsOngoing}
-use Rattle.bpf_verifier.specs.Traced.{IsTraced}
+use Rattle.bpf_verifier.specs.Traced.{IsTraced, HasWays, IsAtTarget}
 use Rattle.bpf_verifier.specs.declared.exploration.Unwound.TheVariants.{Onward, Over}
 use Rattle.bpf_verifier.specs.Walked.{LeadsBySlots, IsWalked, AreWalked, IsWalkedOn}
+use Rattle.bpf_rules.specs.Covers.{IsSetting}
+use Rattle.bpf_rules.specs.declared.ways.Ways.{Ways}
+use Rattle.bpf_plain.specs.Clear.{IsClear}
+use Rattle.bpf_plain.specs.Walks.{IsPlain}
 
 -- the exploration hasn't started
 pub record IsFresh (c : Code) (e : Exploration) : Type 0 where
@@ -73,3 +77,30 @@ IsClearSoFar c n e = AreClear c e.path n
 -- they and the state explored next lead to at most n states
 abbrev pub IsClearAfter : Code → ℕ → Exploration → Unwound → Type 0
 IsClearAfter c n e u = IsClearOn c e.path n u
+
+-- a state is being examined: it comes after the path, and is counted among the visits
+pub record IsExamining (c : Code) (own : View) (e : Exploration) : Type 0 where
+  pub few : e.visits ≤ 2 ^ 22
+  pub traced : IsTracedSoFar c own e
+  pub counted : IsCounted e.path (e.after + 1) e.finished e.visits
+  pub paid : weight e.path (e.after + 1) ≤ e.visits
+
+-- a state at an instruction has these successors, and is kept if and only if it is at a target slot
+pub record IsExamined (c : Code) (own : View) (ways : Ways) (kept : Option View) : Type 0 where
+  pub whole : IsWhole c
+  pub stands : StandsIn c.slots own
+  pub has : HasWays c own ways
+  pub state : IsAtTarget c own kept
+
+-- after a step from a state the exploration has found the like of what it had found before, also of the state explored
+-- next, or of the budget
+pub record HasStepped (c : Code) (own : View) (old new : Exploration) (u : Unwound) : Type 0 where
+  pub traced : IsTracedAfter c new u
+  pub counted : IsCountedSoFar new
+  pub paid : IsPaidSoFar new u
+  pub begun : IsBegunSoFar c.slots old → IsBegunSoFar c.slots new × IsBegun c.slots u
+  pub safe : (p : Setting) (start : View) → IsSetting c p → IsSafeSoFar p start own old → IsSafeAfter p start new u
+  pub walked :
+      (start : View) → IsPlain c.slots → IsWalkedSoFar c.slots start own old → IsWalkedAfter c.slots start new u
+  pub clear :
+      (l m n : ℕ) → IsClear c own l → IsClearSoFar c m old → l + m ≤ n + 1 → IsClearAfter c n new u

@@ -11,7 +11,6 @@ use crate::limit::{Limits, StateLimit};
 use crate::refusal::Refusal;
 use bpf_decode::Program;
 use bpf_machine::Accepted;
-use bpf_plain::laws::plain_law;
 use bpf_prune::Work;
 use bpf_regions::Hook;
 use std::alloc::Global;
@@ -47,12 +46,7 @@ pub fn verify_within(
     ensures budget { IfOk result (λ accepted. IsSafeBudget program limit accepted.budget) }
     ensures refused { IfErr result (IsRefusal program limit) }
 {
-    limit.known();
-    let limits = Limits {
-        states: limit,
-        work: None,
-    };
-    verify_limited(alloc, program, hook, limits)
+    verify_limited(alloc, program, hook, limit.alone())
 }
 
 /// Like `verify_within`, with a limit on work, too: a program that needs more is refused with 36. A budget is at most an
@@ -93,8 +87,6 @@ pub fn verify_counted(
     ensures counted { CountsAll work.new }
     ensures earned { IfOk result (λ accepted. IsEarned accepted.budget work.old work.new) }
 {
-    program.whole();
-    plain_law();
     let found = find_budget(alloc, &program, limit, work);
     work.known();
     let budget = found?;

@@ -2,7 +2,9 @@
 
 ghost use Rattle.std.specs.Prelude.{◌≡◌, ◌⊎◌, ◌<◌, ◌≤◌, ◌+◌, ◌*◌, ◌++◌, ◌∷◌, [], ◌^◌, ℕ, List, Option, Some, length, replicate, IfOk, IfErr, IfSome, OnOk, OnErr};
 ghost use Rattle.bpf_insn.specs.declared.insn.Insn.{Insn};
-ghost use Rattle.bpf_decode.specs.Program.{Begins, Code, IsTarget};
+ghost use Rattle.bpf_decode.specs.Program.{Begins, Code, IsWhole};
+ghost use Rattle.bpf_regions.specs.Maps.{AreShapes};
+ghost use Rattle.bpf_rules.specs.declared.ways.Ways.TheVariants.{Nowhere, One, Two};
 ghost use Rattle.bpf_model.specs.Run.{Safe};
 ghost use Rattle.bpf_model.specs.State.{Setting};
 ghost use Rattle.bpf_absstate.specs.View.{View, entry_view};
@@ -10,27 +12,21 @@ ghost use Rattle.bpf_plain.specs.Clear.{IsClear};
 ghost use Rattle.bpf_plain.specs.Paths.{Reaches};
 ghost use Rattle.bpf_prune.specs.Covering.{Covers, kept_at, newest_covering};
 ghost use Rattle.bpf_prune.specs.Spending.{HasPassed, comparisons};
-ghost use Rattle.bpf_rules.specs.Covers.{IsSetting};
 ghost use Rattle.bpf_verifier.specs.Causes.{IsFaulty, IsStopped, IsDue};
 ghost use Rattle.bpf_verifier.specs.Counting.{weight};
 ghost use Rattle.bpf_verifier.specs.Spent.{IsSpent, IsEarned, IsMemoryOrPassed};
-ghost use Rattle.bpf_verifier.specs.Found.{IsFresh, IsCountedSoFar, IsPaidSoFar, IsBegunSoFar, IsSafeSoFar, IsSafeAfter, HasFinished, IsTracedSoFar, IsTracedAfter, IsWalkedSoFar, IsWalkedAfter, IsClearSoFar, IsClearAfter};
+ghost use Rattle.bpf_verifier.specs.Found.{IsFresh, IsCountedSoFar, IsPaidSoFar, IsBegunSoFar, IsSafeSoFar, IsSafeAfter, HasFinished, IsTracedSoFar, IsTracedAfter, IsWalkedSoFar, IsWalkedAfter, IsClearSoFar, IsClearAfter, IsExamining, IsExamined, HasStepped};
 ghost use Rattle.bpf_verifier.specs.Path.{IsBegun, IsKept, StandsIn};
 ghost use Rattle.bpf_verifier.specs.Safety.{AllSafe};
 ghost use Rattle.bpf_plain.specs.Walks.{IsPlain, HasWalk};
 
 use crate::frame::{Frame, Outcome, examine_state};
-use crate::laws::examination_law;
 use crate::limit::StateLimit;
 use crate::observer::Observer;
 use crate::path::Path;
 use crate::refusal::Refusal;
 use bpf_absstate::AbsState;
-use bpf_absstate::laws::{entry_law, inclusion_law};
 use bpf_decode::Program;
-use bpf_model::laws::within_law;
-use bpf_plain::laws::{standing_law, walking_law};
-use bpf_prune::laws::keeping_law;
 use bpf_prune::{Entry, Finished, TooMuchWork, Work};
 use bpf_rules::{Fault, Ways};
 use std::alloc::{AllocError, Global};
@@ -65,7 +61,11 @@ impl Exploration {
         observer: Observer,
     ) -> Result<Exploration, AllocError>
         ensures fresh { IfOk result (IsFresh program.now) }
+        ensures whole { IsWhole program.now }
+        ensures shapes { AreShapes program.now.shapes }
     {
+        program.whole();
+        program.shapes().whole();
         let finished = Finished::new(alloc, program.len())?;
         Ok(Exploration {
             path: Path::new(alloc, observer.is_listening()),
@@ -155,7 +155,6 @@ impl Exploration {
         ensures units { work.new.units + 563 * work.old.remade ≤ work.old.units + 563 * work.new.remade }
         ensures refuses { IfErr result (λ e. IsStopped e work.new) }
     {
-        keeping_law();
         let mut done = done;
         while let Some(frame) = self.path.pop(program, work)? {
             let Frame {
@@ -180,6 +179,131 @@ impl Exploration {
         Ok(Unwound::Over(done + self.after))
     }
 
+    /// A finished state with that budget includes the state being examined: goes back.
+    fn cover(&mut self, program: &Program, budget: u32, work: &mut Work) -> Result<Unwound, Fault>
+        requires covers { (own : View) × IsExamining program.now own self.old
+            × Covers (kept_at self.old.finished own.pc) own budget }
+        ensures stepped { IfOk result
+            (λ u. (own : View) → Covers (kept_at self.old.finished own.pc) own budget →
+            HasStepped program.now own self.old self.new u) }
+        ensures visits { self.new.visits ≡ self.old.visits }
+        ensures most { work.new.most ≡ work.old.most }
+        ensures examined { work.new.examined ≡ work.old.examined }
+        ensures remade { OnOk result
+            (work.new.remade + 4194304 * length self.new.path
+            ≤ work.old.remade + 4194304 * (length self.old.path + 1)) }
+        ensures greatest { work.new.remade ≤ work.old.remade + 4194304 * (length self.old.path + 1) }
+        ensures units { work.new.units + 563 * work.old.remade ≤ work.old.units + 563 * work.new.remade }
+        ensures refuses { IfErr result (λ e. IsStopped e work.new) }
+    {
+        self.observer.ends(self.path.len(), self.after, budget);
+        let unwound = self.unwind(program, budget, work)?;
+        Ok(unwound)
+    }
+
+    /// The state being examined has no successors: it is finished, and kept if it is given. Then goes back.
+    fn end(
+        &mut self,
+        program: &Program,
+        kept: Option<AbsState>,
+        work: &mut Work,
+    ) -> Result<Unwound, Fault>
+        requires examined { (own : View) × IsExamining program.now own self.old
+            × IsExamined program.now own Nowhere kept }
+        ensures stepped { IfOk result
+            (λ u. (own : View) → IsExamined program.now own Nowhere kept →
+            HasStepped program.now own self.old self.new u) }
+        ensures visits { self.new.visits ≡ self.old.visits }
+        ensures most { work.new.most ≡ work.old.most }
+        ensures examined { work.new.examined ≡ work.old.examined }
+        ensures remade { OnOk result
+            (work.new.remade + 4194304 * length self.new.path
+            ≤ work.old.remade + 4194304 * (length self.old.path + 1)) }
+        ensures greatest { work.new.remade ≤ work.old.remade + 4194304 * (length self.old.path + 1) }
+        ensures units { work.new.units + 563 * work.old.remade ≤ work.old.units + 563 * work.new.remade }
+        ensures refuses { IfErr result (λ e. IsStopped e work.new) }
+    {
+        self.finish(kept, 1)?;
+        let unwound = self.unwind(program, 1, work)?;
+        Ok(unwound)
+    }
+
+    /// The state being examined, which may be kept, has one successor. That is next.
+    fn follow(&mut self, kept: Option<AbsState>, next: AbsState) -> Result<Unwound, AllocError>
+        requires paid { weight self.old.path (self.old.after + 1) ≤ self.old.visits }
+        ensures stepped { IfOk result
+            (λ u. (c : Code) (own : View) → IsExamining c own self.old →
+            IsExamined c own (One next) kept → HasStepped c own self.old self.new u) }
+        ensures visits { self.new.visits ≡ self.old.visits }
+        ensures longer { OnOk result (length self.new.path ≤ length self.old.path + 1) }
+    {
+        if kept.is_none() {
+            self.after += 1;
+            return Ok(Unwound::Onward(next));
+        }
+        let before = self.after;
+        self.push(before, kept, None, 0)?;
+        Ok(Unwound::Onward(next))
+    }
+
+    /// The state being examined, which may be kept, has two successors. The first is next, and the second pending.
+    fn fork(
+        &mut self,
+        kept: Option<AbsState>,
+        first: AbsState,
+        second: AbsState,
+    ) -> Result<Unwound, AllocError>
+        ensures stepped { IfOk result
+            (λ u. (c : Code) (own : View) → IsExamining c own self.old →
+            IsExamined c own (Two first second) kept → HasStepped c own self.old self.new u) }
+        ensures visits { self.new.visits ≡ self.old.visits }
+        ensures longer { OnOk result (length self.new.path ≤ length self.old.path + 1) }
+    {
+        let before = self.after;
+        self.push(before, kept, Some(second), 0)?;
+        Ok(Unwound::Onward(first))
+    }
+
+    /// The successors of the state being examined: the first is next; without any that state is finished.
+    fn lead(
+        &mut self,
+        program: &Program,
+        outcome: Outcome,
+        work: &mut Work,
+    ) -> Result<Unwound, Fault>
+        requires examined { (own : View) × IsExamining program.now own self.old
+            × IsExamined program.now own outcome.ways outcome.kept }
+        ensures stepped { IfOk result
+            (λ u. (own : View) → IsExamining program.now own self.old →
+            IsExamined program.now own outcome.ways outcome.kept →
+            HasStepped program.now own self.old self.new u) }
+        ensures visits { self.new.visits ≡ self.old.visits }
+        ensures most { work.new.most ≡ work.old.most }
+        ensures examined { work.new.examined ≡ work.old.examined }
+        ensures remade { OnOk result
+            (work.new.remade + 4194304 * length self.new.path
+            ≤ work.old.remade + 4194304 * (length self.old.path + 1)) }
+        ensures greatest { work.new.remade ≤ work.old.remade + 4194304 * (length self.old.path + 1) }
+        ensures units { work.new.units + 563 * work.old.remade ≤ work.old.units + 563 * work.new.remade }
+        ensures refuses { IfErr result (λ e. IsStopped e work.new) }
+    {
+        let Outcome { ways, kept } = outcome;
+        match ways {
+            Ways::Nowhere => {
+                let unwound = self.end(program, kept, work)?;
+                Ok(unwound)
+            }
+            Ways::One(next) => {
+                let unwound = self.follow(kept, next)?;
+                Ok(unwound)
+            }
+            Ways::Two(first, second) => {
+                let unwound = self.fork(kept, first, second)?;
+                Ok(unwound)
+            }
+        }
+    }
+
     /// Examines a state, unless a finished one includes it, whose budget is given. Its first successor is explored
     /// next; without any it is finished.
     fn visit(
@@ -189,29 +313,15 @@ impl Exploration {
         covering: Option<u32>,
         work: &mut Work,
     ) -> Result<Unwound, Fault>
+        requires whole { IsWhole program.now }
         requires room { self.old.visits < 2 ^ 22 }
         requires covers { IfSome covering (Covers (kept_at self.old.finished state.pc) state) }
         requires traced { IsTracedSoFar program.now state self.old }
         requires counted { IsCountedSoFar self.old }
         requires paid { weight self.old.path self.old.after ≤ self.old.visits }
         requires stands { StandsIn program.now.slots state }
-        ensures traced { IfOk result (IsTracedAfter program.now self.new) }
+        ensures stepped { IfOk result (HasStepped program.now state self.old self.new) }
         ensures visits { self.new.visits ≡ self.old.visits + 1 }
-        ensures counted { IfOk result (λ u. IsCountedSoFar self.new) }
-        ensures paid { IfOk result (IsPaidSoFar self.new) }
-        ensures begun { IfOk result
-            (λ u. IsBegunSoFar program.now.slots self.old → IsBegunSoFar program.now.slots self.new
-            × IsBegun program.now.slots u) }
-        ensures safe { IfOk result
-            (λ u. (p : Setting) (start : View) → IsSetting program.now p →
-            IsSafeSoFar p start state self.old → IsSafeAfter p start self.new u) }
-        ensures walked { IfOk result
-            (λ u. (start : View) → IsPlain program.now.slots →
-            IsWalkedSoFar program.now.slots start state self.old →
-            IsWalkedAfter program.now.slots start self.new u) }
-        ensures clear { IfOk result
-            (λ u. (l m n : ℕ) → IsClear program.now state l → IsClearSoFar program.now m self.old →
-            l + m ≤ n + 1 → IsClearAfter program.now n self.new u) }
         ensures most { work.new.most ≡ work.old.most }
         ensures examined { work.new.examined ≡ work.old.examined }
         ensures remade { OnOk result
@@ -222,41 +332,16 @@ impl Exploration {
         ensures refuses { IfErr result
             (λ e. IsStopped e work.new ⊎ IsFaulty program.now state e) }
     {
-        program.whole();
-        examination_law();
-        inclusion_law();
-        standing_law();
-        walking_law();
         let alloc = self.path.alloc();
         self.visits += 1;
         self.observer.examines(&state, self.path.len(), self.after)?;
         if let Some(budget) = covering {
-            self.observer.ends(self.path.len(), self.after, budget);
-            let unwound = self.unwind(program, budget, work)?;
+            let unwound = self.cover(program, budget, work)?;
             return Ok(unwound);
         }
-        let Outcome { ways, kept } = examine_state(alloc, program, state)?;
-        match ways {
-            Ways::Nowhere => {
-                self.finish(kept, 1)?;
-                let unwound = self.unwind(program, 1, work)?;
-                Ok(unwound)
-            }
-            Ways::One(next) => {
-                if kept.is_none() {
-                    self.after += 1;
-                    return Ok(Unwound::Onward(next));
-                }
-                let before = self.after;
-                self.push(before, kept, None, 0)?;
-                Ok(Unwound::Onward(next))
-            }
-            Ways::Two(first, second) => {
-                let before = self.after;
-                self.push(before, kept, Some(second), 0)?;
-                Ok(Unwound::Onward(first))
-            }
-        }
+        let outcome = examine_state(alloc, program, state)?;
+        let unwound = self.lead(program, outcome, work)?;
+        Ok(unwound)
     }
 }
 
@@ -292,6 +377,8 @@ pub(crate) fn observed_budget(
     work: &mut Work,
 ) -> Result<u32, Refusal>
     requires fresh { IsFresh program.now exploration.old }
+    requires whole { IsWhole program.now }
+    requires shapes { AreShapes program.now.shapes }
     ensures safe { IfOk result (Safe program.now.slots program.now.shapes) }
     ensures small { IfOk result (λ budget. budget ≤ limit) }
     ensures walk { IfOk result
@@ -303,12 +390,6 @@ pub(crate) fn observed_budget(
     ensures spent { IsSpent limit work.old work.new }
     ensures earned { IfOk result (λ budget. IsEarned budget work.old work.new) }
 {
-    program.whole();
-    program.shapes().whole();
-    entry_law();
-    standing_law();
-    walking_law();
-    within_law();
     let most = limit.states();
     let mut current = AbsState::entry(alloc)?;
     'visit: while exploration.visits < most {
@@ -332,6 +413,7 @@ pub(crate) fn find_budget(
     limit: StateLimit,
     work: &mut Work,
 ) -> Result<u32, Refusal>
+    ensures whole { IsWhole program.now }
     ensures safe { IfOk result (Safe program.now.slots program.now.shapes) }
     ensures small { IfOk result (λ budget. budget ≤ limit) }
     ensures walk { IfOk result
@@ -343,8 +425,6 @@ pub(crate) fn find_budget(
     ensures spent { IsSpent limit work.old work.new }
     ensures earned { IfOk result (λ budget. IsEarned budget work.old work.new) }
 {
-    program.whole();
-    standing_law();
     let mut exploration = Exploration::new(alloc, program, Observer::off())?;
     observed_budget(alloc, program, &mut exploration, limit, work)
 }

@@ -262,6 +262,33 @@ fn reopened(
     })
 }
 
+/// The frame with that outline, on the path after a state. The states with one successor before it, and its own, were
+/// examined before, so only memory may be lacking. Each counts as work before it is made again.
+fn next_opened(
+    alloc: Global,
+    program: &Program,
+    from: AbsState,
+    outline: Outline,
+    work: &mut Work,
+) -> Result<Opened, Fault>
+    requires opens { (own : View) × LeadsExactly program.now outline.before from own
+        × OpensWith program.now outline own }
+    ensures is { IfOk result
+        (λ o. (own : View) (f : Frame) (child : View) →
+        LeadsExactly program.now outline.before from own → IsOpened program.now f own child → outline
+        ≡ outline_of f → (o.frame ≡ f) × (o.child ≡ child)) }
+    ensures most { work.new.most ≡ work.old.most }
+    ensures examined { work.new.examined ≡ work.old.examined }
+    ensures remade { OnOk result (work.new.remade ≡ work.old.remade + (outline.before + 1)) }
+    ensures greatest { work.new.remade ≤ work.old.remade + (outline.before + 1) }
+    ensures units { work.new.units + 563 * work.old.remade ≤ work.old.units + 563 * work.new.remade }
+    ensures refuses { IfErr result (λ e. IsStopped e work.new) }
+{
+    let own = led(alloc, program, from, outline.before, work)?;
+    let opened = reopened(alloc, program, own, outline, work)?;
+    Ok(opened)
+}
+
 /// One frame more.
 fn add(frames: &mut Vec<Frame>, frame: Frame) -> Result<(), AllocError>
     ensures items { OnOk result (frames.new.items ≡ frames.old.items ++ frame ∷ []) }
@@ -355,8 +382,7 @@ impl Fold {
         let mut current = child;
         for k in 1..outlines.len() {
             let outline = outlines[k];
-            let state = led(alloc, program, current, outline.before, work)?;
-            let Opened { frame, child } = reopened(alloc, program, state, outline, work)?;
+            let Opened { frame, child } = next_opened(alloc, program, current, outline, work)?;
             add(&mut frames, frame)?;
             current = child;
         }

@@ -69,7 +69,8 @@ pub(crate) fn examine_state(
         (λ e. (i : Insn) → Holds program.now.slots state.pc i →
         (e ≡ NoMemory) ⊎ (examined program.now.shapes i state ≡ Err e)) }
 {
-    if program.is_target(state.pc()) {
+    let slot = state.pc();
+    if program.is_target(slot) {
         let ways = examine(alloc, program, &state)?;
         return Ok(Outcome {
             ways,

@@ -1,6 +1,6 @@
 //! The limits on examined states and on work.
 
-ghost use Rattle.std.specs.Prelude.{◌≡◌, ◌↔◌, ℕ, IsSome, IfSome};
+ghost use Rattle.std.specs.Prelude.{◌≡◌, ◌↔◌, ℕ, None, IsSome, IfSome};
 ghost use Rattle.bpf_verifier.specs.Limits.{IsStateLimit, nearest, units_of};
 
 use std::marker::Model;
@@ -57,10 +57,17 @@ impl StateLimit {
         self.states
     }
 
-    /// Does nothing; its contract gives a proof the type's invariant.
-    pub fn known(self)
-        ensures { IsStateLimit self }
-    {}
+    /// This limit of states, and any work.
+    pub fn alone(self) -> Limits
+        ensures is { result ≡ record { states = self; work = None } }
+        ensures valid { IsStateLimit self }
+    {
+        let _ = self.states;
+        Limits {
+            states: self,
+            work: None,
+        }
+    }
 }
 
 /// The most that an exploration does. A program that needs more is refused with 36.

@@ -13,7 +13,6 @@ use crate::raising::raises;
 use crate::refusal::Refusal;
 use bpf_absstate::AbsState;
 use bpf_decode::Program;
-use bpf_plain::laws::{plain_law, standing_law};
 use bpf_prune::{Entry, Work};
 use bpf_regions::Hook;
 use std::alloc::{AllocError, Global};
@@ -38,12 +37,7 @@ pub fn explore_within(
     ensures budget { OnOk result ((b : ℕ) × IsSafeBudget program.now limit b) }
     ensures refused { IfErr result (IsRefusal program.now limit) }
 {
-    limit.known();
-    let limits = Limits {
-        states: limit,
-        work: None,
-    };
-    explore_limited(alloc, program, limits)
+    explore_limited(alloc, program, limit.alone())
 }
 
 /// Like `explore_within`, with a limit on work as for `verify_limited`.
@@ -61,6 +55,28 @@ pub fn explore_limited(
     explore_counted(alloc, program, states, &mut work)
 }
 
+/// The states finished at target slots, in that order, or the refusal.
+fn listed(
+    alloc: Global,
+    program: &Program,
+    limit: StateLimit,
+    work: &mut Work,
+) -> Result<Vec<Entry>, Refusal>
+    ensures budget { OnOk result
+        ((b : ℕ) × IsSafeBudget program.now limit b × IsEarned b work.old work.new) }
+    ensures refused { IfErr result (IsRefusalAfter program.now limit work.new) }
+    ensures due { IfErr result (IsDue program.now limit work.old work.new) }
+    ensures spent { IsSpent limit work.old work.new }
+{
+    let mut exploration = Exploration::new(alloc, program, Observer::listening(alloc))?;
+    let found = observed_budget(alloc, program, &mut exploration, limit, work);
+    let _budget = found?;
+    match exploration.into_observer().into_heard() {
+        Some(heard) => Ok(heard.finished),
+        None => Ok(Vec::new(alloc)),
+    }
+}
+
 /// Like `explore_limited`, but `work` has the limit on work, as for `verify_counted`.
 pub fn explore_counted(
     alloc: Global,
@@ -75,18 +91,9 @@ pub fn explore_counted(
     ensures spent { IsSpent limit work.old work.new }
     ensures counted { CountsAll work.new }
 {
-    program.whole();
-    plain_law();
-    standing_law();
+    let found = listed(alloc, program, limit, work);
     work.known();
-    let mut exploration = Exploration::new(alloc, program, Observer::listening(alloc))?;
-    let found = observed_budget(alloc, program, &mut exploration, limit, work);
-    work.known();
-    let _budget = found?;
-    match exploration.into_observer().into_heard() {
-        Some(heard) => Ok(heard.finished),
-        None => Ok(Vec::new(alloc)),
-    }
+    found
 }
 
 /// What an exploration found, and how.
@@ -118,12 +125,7 @@ pub fn explain_within(
     ensures start { IfOk result
         (λ x. IfOk x.verdict (λ budget. budget ≤ slice_index x.budgets.items 0)) }
 {
-    limit.known();
-    let limits = Limits {
-        states: limit,
-        work: None,
-    };
-    explain_limited(alloc, program, limits)
+    explain_limited(alloc, program, limit.alone())
 }
 
 /// What `verify_limited` finds of a program, and how. The contract describes what that of `explain_within` does.
@@ -140,8 +142,6 @@ pub fn explain_limited(
     ensures start { IfOk result
         (λ x. IfOk x.verdict (λ budget. budget ≤ slice_index x.budgets.items 0)) }
 {
-    program.whole();
-    plain_law();
     let states = limits.states;
     let mut work = Work::within(limits.units());
     let mut exploration = Exploration::new(alloc, program, Observer::listening(alloc))?;

@@ -1,5 +1,5 @@
 use Rattle.std.proofs.Common.{get_or, arith, ◌∙◌}
-use Rattle.bpf_cert.proofs.Builds.{begins, depth_of, called_lives, call_unset, goes_on}
+use Rattle.bpf_cert.proofs.Builds.{begins, depth_of, called_eleven, called_lives, call_unset, goes_on}
 use Rattle.bpf_cert.proofs.building.with_frames.Goals as goal
 
 pub loop-k-init : goal.loop-k-init
@@ -12,6 +12,12 @@ call-requires c =
     let few = c.requires.few in
     let depth = depth_of c.args.frames.now c.loop-k.k c.loop-k.state (omega (arith, lt)) c.loop-k.invariant in
     record { few = omega (arith, lt, few, depth) }
+
+pub fill-requires-in-loop-k-clause-eleven : goal.fill-requires-in-loop-k-clause-eleven
+fill-requires-in-loop-k-clause-eleven c =
+    let lt = c.loop-k-test.true in
+    let low = c.loop-k.auto.k in
+    called_eleven c.args.frames.now c.loop-k.k (get_or c.args.frames.now c.loop-k.k c.index-frames-k.result).return_slot c.loop-k.state c.call.new.self (omega (arith, low)) (omega (arith, lt)) c.requires.all c.loop-k.invariant c.in_ok-call.ensures.ok
 
 pub fill-requires-in-loop-k-clause-lives : goal.fill-requires-in-loop-k-clause-lives
 fill-requires-in-loop-k-clause-lives c =

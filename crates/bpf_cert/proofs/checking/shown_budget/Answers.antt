@@ -17,5 +17,5 @@ returns-clause-is g c =
 
 pub returns-clause-safe : goal.returns-clause-safe
 returns-clause-safe g c =
-    shown_safe c.covered_law.ensures.safe c.args.program.now c.in_ok-claims.claims c.in_ok-budget.budget c.small.result c.whole.ensures.is (subst AreShapes c.shapes.ensures.is c.whole-2.ensures.is)
+    shown_safe c.args.program.now c.in_ok-claims.claims c.in_ok-budget.budget c.small.result c.whole.ensures.is (subst AreShapes c.shapes.ensures.is c.whole-2.ensures.is)
     c.in_ok-claims.ensures.whole c.in_ok-budget.ensures.is c.small.ensures.is

@@ -13,7 +13,6 @@ use Rattle.bpf_verifier.specs.Spent.{IsMemoryOrPassed}
 use Rattle.bpf_verifier.specs.declared.refusal.Refusal.{Refusal}
 use Rattle.bpf_prune.specs.declared.kept.Entry.{Entry}
 use Rattle.bpf_verifier.specs.declared.frame.Frame.{Frame}
-use Rattle.bpf_regions.specs.Maps.{AreShapes}
 use Rattle.bpf_rules.specs.Covers.{IsSetting}
 use Rattle.bpf_plain.specs.Paths.{Reaches}
 use Rattle.bpf_verifier.specs.Path.{StandsIn}
@@ -21,6 +20,10 @@ use Rattle.bpf_verifier.specs.Safety.{LeadsSafely, IsExplored, AllSafe}
 use Rattle.bpf_verifier.specs.Traced.{LeadsExactly, IsOpened}
 use Rattle.bpf_verifier.specs.Walked.{LeadsBySlots, IsWalked}
 use Rattle.bpf_verifier.specs.Counting.{weight}
+use Rattle.bpf_absstate.proofs.Kept.{entry_contains}
+use Rattle.bpf_model.proofs.Within.{Safe-from_within}
+use Rattle.bpf_plain.proofs.Graph.{reaches_walk}
+use Rattle.bpf_plain.proofs.Standing.{entry_stands}
 use Rattle.bpf_verifier.proofs.Counts.{weight_empty}
 use Rattle.bpf_verifier.proofs.Explored as explored
 use Rattle.bpf_verifier.proofs.Tracing.{leads_none}
@@ -44,7 +47,7 @@ visit-init c =
       counted = record { frames = subst (All (λ f. f.best + weight fs after ≤ visits)) (sym empty) (All-nil (λ f. f.best + weight fs after ≤ visits)); finished = none (λ e. e.budget + weight fs after ≤ visits) table _ c.requires.fresh.finished };
       paid = let size = weight_empty fs after empty in omega (arith, size, none_after);
       traced = (entry_view, rw same (Linked-empty (LeadsExactly c.args.program.now) (IsOpened c.args.program.now) fs after entry_view empty none_after (leads_none c.args.program.now entry_view)));
-      stands = rw same (c.standing_law.ensures.entry c.args.program.now c.whole.ensures.is, λ plain. refl);
+      stands = rw same (entry_stands c.args.program.now c.requires.whole, λ plain. refl);
       begun = rw empty (All-nil (λ f. IfSome f.pending (StandsIn slots)));
       path = λ p set. rw same (Linked-empty (LeadsSafely p) (IsExplored p) fs after entry_view empty none_after (explored.stays p entry_view));
       safe = λ p set. none (λ e. AllSafe p e.budget e.state) table _ c.requires.fresh.finished;
@@ -62,19 +65,19 @@ pub visit-preserved : goal.visit-preserved
 visit-preserved c =
     let h = c.visit.invariant in
     record {
-      counted = c.in-Ok-Onward.ensures.counted;
-      paid = rw c.in-Ok-Onward.field-0-is at c.in-Ok-Onward.ensures.paid;
-      traced = rw c.in-Ok-Onward.field-0-is at c.in-Ok-Onward.ensures.traced;
-      stands = (rw c.in-Ok-Onward.field-0-is at c.in-Ok-Onward.ensures.begun h.begun).1;
-      begun = (c.in-Ok-Onward.ensures.begun h.begun).0;
-      path = λ p set. (rw c.in-Ok-Onward.field-0-is at c.in-Ok-Onward.ensures.safe p entry_view set (h.path p set, h.safe p set)).0;
-      safe = λ p set. (c.in-Ok-Onward.ensures.safe p entry_view set (h.path p set, h.safe p set)).1;
-      walks = λ plain. (rw c.in-Ok-Onward.field-0-is at c.in-Ok-Onward.ensures.walked entry_view plain (h.walks plain, h.walked plain)).0;
-      walked = λ plain. (c.in-Ok-Onward.ensures.walked entry_view plain (h.walks plain, h.walked plain)).1;
+      counted = c.in-Ok-Onward.ensures.stepped.counted;
+      paid = (rw c.in-Ok-Onward.field-0-is at c.in-Ok-Onward.ensures.stepped).paid;
+      traced = (rw c.in-Ok-Onward.field-0-is at c.in-Ok-Onward.ensures.stepped).traced;
+      stands = ((rw c.in-Ok-Onward.field-0-is at c.in-Ok-Onward.ensures.stepped).begun h.begun).1;
+      begun = (c.in-Ok-Onward.ensures.stepped.begun h.begun).0;
+      path = λ p set. ((rw c.in-Ok-Onward.field-0-is at c.in-Ok-Onward.ensures.stepped).safe p entry_view set (h.path p set, h.safe p set)).0;
+      safe = λ p set. (c.in-Ok-Onward.ensures.stepped.safe p entry_view set (h.path p set, h.safe p set)).1;
+      walks = λ plain. ((rw c.in-Ok-Onward.field-0-is at c.in-Ok-Onward.ensures.stepped).walked entry_view plain (h.walks plain, h.walked plain)).0;
+      walked = λ plain. (c.in-Ok-Onward.ensures.stepped.walked entry_view plain (h.walks plain, h.walked plain)).1;
       clear = λ clear.
           let k = h.clear clear in
           let left : ℕ = c.args.limit - (c.visit.exploration.visits + 1) in
-          let r = rw c.in-Ok-Onward.field-0-is at c.in-Ok-Onward.ensures.clear k.0 k.1 left k.2 k.3 (omega (arith, k.4, c.visit-test.true, c.states-most.ensures.value)) in
+          let r = (rw c.in-Ok-Onward.field-0-is at c.in-Ok-Onward.ensures.stepped).clear k.0 k.1 left k.2 k.3 (omega (arith, k.4, c.visit-test.true, c.states-most.ensures.value)) in
           (r.0, r.1, r.2, r.3, omega (arith, r.4, c.in-Ok-Onward.ensures.visits, c.visit-test.true, c.states-most.ensures.value));
       states = omega (arith, c.visit-test.true, c.states-most.ensures.value, c.in-Ok-Onward.ensures.visits);
       most = omega (arith, h.most, c.in-Ok.ensures.most, c.in-Ok-Onward.ensures.most);
@@ -85,21 +88,21 @@ visit-preserved c =
 
 pub returns-in-Ok-Over-clause-safe : goal.returns-in-Ok-Over-clause-safe
 returns-in-Ok-Over-clause-safe c =
-    c.within_law.ensures c.args.program.now.slots c.args.program.now.shapes c.in-Ok-Over.budget (λ frame context short long bytes bytes2.
+    Safe-from_within c.args.program.now.slots c.args.program.now.shapes c.in-Ok-Over.budget (λ frame context short long bytes bytes2.
     let p = setting c.args.program.now.slots c.args.program.now.shapes frame context in
-    let set : IsSetting c.args.program.now p = record { code = refl; shapes = refl; maps = subst AreShapes c.shapes.ensures.is c.whole-2.ensures.is; frame = short; context = long; frame_bytes = bytes; context_bytes = bytes2 } in
+    let set : IsSetting c.args.program.now p = record { code = refl; shapes = refl; maps = c.requires.shapes; frame = short; context = long; frame_bytes = bytes; context_bytes = bytes2 } in
     let h = c.visit.invariant in
-    (rw c.in-Ok-Over.field-0-is at c.in-Ok-Over.ensures.safe p entry_view set (h.path p set, h.safe p set)).0 entry (c.entry_law.ensures.contains p))
+    ((rw c.in-Ok-Over.field-0-is at c.in-Ok-Over.ensures.stepped).safe p entry_view set (h.path p set, h.safe p set)).0 entry (entry_contains p))
 
 pub returns-in-Ok-Over-clause-walk : goal.returns-in-Ok-Over-clause-walk
 returns-in-Ok-Over-clause-walk c = λ plain.
     let h = c.visit.invariant in
-    let r = (rw c.in-Ok-Over.field-0-is at c.in-Ok-Over.ensures.walked entry_view plain (h.walks plain, h.walked plain)).0 in
-    c.walking_law.ensures.walks c.args.program.now c.in-Ok-Over.budget r
+    let r = ((rw c.in-Ok-Over.field-0-is at c.in-Ok-Over.ensures.stepped).walked entry_view plain (h.walks plain, h.walked plain)).0 in
+    reaches_walk c.args.program.now.slots c.in-Ok-Over.budget r
 
 pub returns-in-Ok-Over-clause-earned : goal.returns-in-Ok-Over-clause-earned
 returns-in-Ok-Over-clause-earned c =
-    let paid = rw c.in-Ok-Over.field-0-is at c.in-Ok-Over.ensures.paid in
+    let paid = (rw c.in-Ok-Over.field-0-is at c.in-Ok-Over.ensures.stepped).paid in
     omega (arith, paid, c.visit.invariant.examined, c.in-Ok.ensures.examined, c.in-Ok-Over.ensures.examined, c.in-Ok-Over.ensures.visits)
 
 pub returns-clause-clear : goal.returns-clause-clear

@@ -1,3 +1,4 @@
+use Rattle.bpf_plain.proofs.Plainly.{plain_clear}
 use Rattle.bpf_verifier.proofs.Admitting.{budgets, refusals, found_within}
 use Rattle.bpf_verifier.proofs.listing.explain_limited.Goals as goal
 
@@ -10,7 +11,7 @@ pub returns-clause-refused : goal.returns-clause-refused
 returns-clause-refused c =
     let v = c.observed_budget-verdict in
     rw c.in_ok-explanation.ensures.verdict
-    (refusals c.args.program.now c.args.limits _ v.result (c.plain_law.ensures.clear c.args.program.now c.whole.ensures.is) (rw (c.within-work.ensures.is, c.units.ensures.is) at v.ensures.spent) (record { allowed = c.known.ensures.allowed; all = c.known.ensures.counted }) v.ensures.begins v.ensures.clear
+    (refusals c.args.program.now c.args.limits _ v.result (plain_clear c.args.program.now c.new.ensures.whole) (rw (c.within-work.ensures.is, c.units.ensures.is) at v.ensures.spent) (record { allowed = c.known.ensures.allowed; all = c.known.ensures.counted }) v.ensures.begins v.ensures.clear
     (rw (c.within-work.ensures.is, c.units.ensures.is) at v.ensures.due))
 
 pub returns-clause-start : goal.returns-clause-start

@@ -6,6 +6,7 @@ use Rattle.bpf_verifier.specs.Safety.{AllSafe, LeadsSafely, IsExplored}
 use Rattle.bpf_plain.specs.Paths.{Reaches}
 use Rattle.bpf_verifier.specs.Walked.{LeadsBySlots, IsWalked}
 use Rattle.bpf_verifier.specs.Folded.{with_state, IsTaken}
+use Rattle.bpf_prune.proofs.Keeping.{leaves_out}
 use Rattle.bpf_verifier.proofs.Folding.{taken_state, taken_own, pushed_length, remade_few}
 use Rattle.bpf_verifier.proofs.Clears.{drops, takes_up}
 use Rattle.bpf_verifier.proofs.Counts.{Counted-pop, Counted-over, Counted-best, Counted-kept, weight_push, after_le}
@@ -122,7 +123,7 @@ loop-frame-preserved c =
       traced = rw (c.in_ok-finish-in-None.ensures.path, c.in_ok-finish-in-None.ensures.after)
           (tracing.goes_back c.args.program.now c.loop-frame.self.path c.pop.new.self f c.loop-frame.self.after h.traced.0 taken.last h.traced.1);
       finished = rw (c.in_ok-finish-in-None.ensures.path, c.in_ok-finish-in-None.ensures.after)
-          (finishing.goes_back c.keeping_law.ensures.left_out c.loop-frame.self.finished c.finish.new.self.finished c.loop-frame.self.path c.pop.new.self c.in-Some.frame c.loop-frame.self.after c.loop-frame.done c.max-best.result taken
+          (finishing.goes_back leaves_out c.loop-frame.self.finished c.finish.new.self.finished c.loop-frame.self.path c.pop.new.self c.in-Some.frame c.loop-frame.self.after c.loop-frame.done c.max-best.result taken
           c.in-None.is c.max-best.ensures c.in_ok-finish-in-None.ensures.finished ∙ h.finished);
       counted = rw (c.in_ok-finish-in-None.ensures.path, c.in_ok-finish-in-None.ensures.after, c.in_ok-finish-in-None.ensures.visits) counted;
       paid = rw (c.in_ok-finish-in-None.ensures.path, c.in_ok-finish-in-None.ensures.after, c.in_ok-finish-in-None.ensures.visits) paid;

@@ -37,26 +37,15 @@ loop-k-init c =
       units = c.in_ok-frame.ensures.units;
     }
 
-pub led-requires : goal.led-requires
-led-requires c =
+pub next_opened-requires : goal.next_opened-requires
+next_opened-requires c =
     let os : List Outline = c.self.inside.outlines.items in
     let folded : IsFolded c.self.inside.first os c.args.self = subst (IsFolded c.self.inside.first os) c.self.view_is c.self.invariant.0 in
     let o : Outline = c.index-outline.result.now in
     let at : slice_get os c.loop-k.k ≡ Some o = slice_get_read os c.len-k-end.result c.loop-k.k o (search rules) c.loop-k-test.true c.index-outline.ensures in
     let t = c.loop-k.invariant.rest in
     let r = next_of c.args.program.now c.args.self c.loop-k.k c.loop-k.current os o t.0 t.1 folded.same at t.2 in
-    record { leads = (r.own, r.leads) }
-
-pub reopened-requires-in-loop-k : goal.reopened-requires-in-loop-k
-reopened-requires-in-loop-k c =
-    let os : List Outline = c.self.inside.outlines.items in
-    let folded : IsFolded c.self.inside.first os c.args.self = subst (IsFolded c.self.inside.first os) c.self.view_is c.self.invariant.0 in
-    let o : Outline = c.index-outline.result.now in
-    let at : slice_get os c.loop-k.k ≡ Some o = slice_get_read os c.len-k-end.result c.loop-k.k o (search rules) c.loop-k-test.true c.index-outline.ensures in
-    let t = c.loop-k.invariant.rest in
-    let r = next_of c.args.program.now c.args.self c.loop-k.k c.loop-k.current os o t.0 t.1 folded.same at t.2 in
-    let own : c.in_ok-state.state ≡ r.own = c.in_ok-state.ensures.is r.own r.leads in
-    record { opens = (r.frame, r.child, subst (λ x. IsOpened c.args.program.now r.frame x r.child) (sym own) r.opens, r.same) }
+    record { opens = (r.own, r.leads, (r.frame, r.child, r.opens, r.same)) }
 
 pub loop-k-preserved : goal.loop-k-preserved
 loop-k-preserved c =
@@ -66,32 +55,19 @@ loop-k-preserved c =
     let at : slice_get os c.loop-k.k ≡ Some o = slice_get_read os c.len-k-end.result c.loop-k.k o (search rules) c.loop-k-test.true c.index-outline.ensures in
     let t = c.loop-k.invariant.rest in
     let r = next_of c.args.program.now c.args.self c.loop-k.k c.loop-k.current os o t.0 t.1 folded.same at t.2 in
-    let own : c.in_ok-state.state ≡ r.own = c.in_ok-state.ensures.is r.own r.leads in
-    let is = c.in_ok-frame-2.ensures.is r.frame r.child (subst (λ x. IsOpened c.args.program.now r.frame x r.child) (sym own) r.opens) r.same in
+    let is = c.in_ok-frame-2.ensures.is r.own r.frame r.child r.leads r.opens r.same in
     record {
       frames = c.in_ok-add-2.ensures.items ∙ ap (λ x. x ++ c.in_ok-frame-2.field-0.frame ∷ []) c.loop-k.invariant.frames ∙ ap (λ f. take c.loop-k.k c.args.self ++ f ∷ []) is.0 ∙ sym r.taken;
       rest = (t.0, t.1, subst (λ x. Linked (LeadsExactly c.args.program.now) (IsOpened c.args.program.now) (drop (c.loop-k.k + 1) c.args.self) t.0 x t.1) (sym is.1) r.above);
       some = rw r.taken (pushed_some (take c.loop-k.k c.args.self) r.frame);
-      most = c.in_ok-frame-2.ensures.most ∙ c.in_ok-state.ensures.most ∙ c.loop-k.invariant.most;
-      examined = c.in_ok-frame-2.ensures.examined ∙ c.in_ok-state.ensures.examined ∙ c.loop-k.invariant.examined;
+      most = c.in_ok-frame-2.ensures.most ∙ c.loop-k.invariant.most;
+      examined = c.in_ok-frame-2.ensures.examined ∙ c.loop-k.invariant.examined;
       remade =
           let before : o.before ≡ r.frame.before = ap (λ (x : Outline). x.before) r.same in
           let more = states_push (take c.loop-k.k c.args.self) r.frame c.loop-k.invariant.some in
-          rw r.taken (omega (arith, before, more, c.in_ok-frame-2.ensures.remade, c.in_ok-state.ensures.remade, c.loop-k.invariant.remade));
-      units = omega (arith, c.in_ok-frame-2.ensures.units, c.in_ok-state.ensures.units, c.loop-k.invariant.units);
+          rw r.taken (omega (arith, before, more, c.in_ok-frame-2.ensures.remade, c.loop-k.invariant.remade));
+      units = omega (arith, c.in_ok-frame-2.ensures.units, c.loop-k.invariant.units);
     }
-
-pub returns-in_err-state-clause-greatest : goal.returns-in_err-state-clause-greatest
-returns-in_err-state-clause-greatest c =
-    let os : List Outline = c.self.inside.outlines.items in
-    let folded : IsFolded c.self.inside.first os c.args.self = subst (IsFolded c.self.inside.first os) c.self.view_is c.self.invariant.0 in
-    let o : Outline = c.index-outline.result.now in
-    let at : slice_get os c.loop-k.k ≡ Some o = slice_get_read os c.len-k-end.result c.loop-k.k o (search rules) c.loop-k-test.true c.index-outline.ensures in
-    let t = c.loop-k.invariant.rest in
-    let r = next_of c.args.program.now c.args.self c.loop-k.k c.loop-k.current os o t.0 t.1 folded.same at t.2 in
-    let before : o.before ≡ r.frame.before = ap (λ (x : Outline). x.before) r.same in
-    let few = states_within c.args.self c.loop-k.k r.frame r.taken c.loop-k.invariant.some in
-    omega (arith, before, few, c.led.ensures.greatest, c.loop-k.invariant.remade)
 
 pub returns-in_err-frame-2-clause-greatest : goal.returns-in_err-frame-2-clause-greatest
 returns-in_err-frame-2-clause-greatest c =
@@ -103,7 +79,7 @@ returns-in_err-frame-2-clause-greatest c =
     let r = next_of c.args.program.now c.args.self c.loop-k.k c.loop-k.current os o t.0 t.1 folded.same at t.2 in
     let before : o.before ≡ r.frame.before = ap (λ (x : Outline). x.before) r.same in
     let few = states_within c.args.self c.loop-k.k r.frame r.taken c.loop-k.invariant.some in
-    omega (arith, before, few, c.reopened-in-loop-k.ensures.greatest, c.in_ok-state.ensures.remade, c.loop-k.invariant.remade)
+    omega (arith, before, few, c.next_opened.ensures.greatest, c.loop-k.invariant.remade)
 
 pub returns-in_err-add-2-clause-greatest : goal.returns-in_err-add-2-clause-greatest
 returns-in_err-add-2-clause-greatest c =
@@ -115,7 +91,7 @@ returns-in_err-add-2-clause-greatest c =
     let r = next_of c.args.program.now c.args.self c.loop-k.k c.loop-k.current os o t.0 t.1 folded.same at t.2 in
     let before : o.before ≡ r.frame.before = ap (λ (x : Outline). x.before) r.same in
     let few = states_within c.args.self c.loop-k.k r.frame r.taken c.loop-k.invariant.some in
-    omega (arith, before, few, c.in_ok-frame-2.ensures.remade, c.in_ok-state.ensures.remade, c.loop-k.invariant.remade)
+    omega (arith, before, few, c.in_ok-frame-2.ensures.remade, c.loop-k.invariant.remade)
 
 pub returns-clause-greatest : goal.returns-clause-greatest
 returns-clause-greatest c =
