@@ -134,8 +134,10 @@ fn handle_at<J: Judge>(
     }
 }
 
-/// Handles an event at the shards that it concerns. `None` if it is refused for lack of memory.
-fn handle_one<J: Judge>(
+/// Handles an event at the shards that it concerns (`shard_of`): a tick at all eight shards, or at
+/// none. Returns its outputs, those of a tick ordered by shard. `None` if it is refused for lack of
+/// memory, which changes nothing and asks for no verdict.
+pub fn handle_one<J: Judge>(
     alloc: Global,
     shards: &mut [Shard; 8],
     event: &Event,

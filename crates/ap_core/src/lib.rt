@@ -1,7 +1,7 @@
 //! The core of the access point: handles its events.
 //!
-//! Main calls: `Shard::handle`, `Shard::handle_with_drop`, and `handle_all` over eight shards. It
-//! depends on `ap_agreements`. A shard's type guarantees that a history leads to its readings.
+//! Main calls: `Shard::handle`, `Shard::handle_with_drop`, and over eight shards `handle_one` and
+//! `handle_all`. It depends on `ap_agreements`. A shard's type guarantees that a history leads to its readings.
 //! `handle` is one step of the link, with the relation's outputs, or a refusal for lack of memory
 //! that changes nothing and asks no judge. `handle_with_drop` also returns whether a verdict
 //! dropped data.
@@ -23,7 +23,7 @@ mod shard;
 mod state;
 mod ticks;
 
-pub use access_point::{handle_all, known_shards, new_shards, shard_of};
+pub use access_point::{handle_all, handle_one, known_shards, new_shards, shard_of};
 pub use ap_agreements::AgreementInForce;
 pub use ap_model::{AskLog, Event, Held, Judge, LinkConfig, ListJudge, Octets, Out, Up};
 pub use assoc::{Known, KnownStation};

@@ -9,9 +9,9 @@ ghost use Rattle.ap_core.specs.Listing.{Joins, ListsAgreements, ListsStations, M
 ghost use Rattle.program_judge.specs.Programs.{IsFor, no_programs, replaced};
 ghost use Rattle.ap_single.specs.Leading.{IsLike, Leads};
 
-use crate::handling::{only_result, view_at};
+use crate::handling::view_at;
 use ap_core::{
-    AgreementInForce, Event, KnownStation, LinkConfig, Out, Shard, handle_all, new_shards,
+    AgreementInForce, Event, KnownStation, LinkConfig, Out, Shard, handle_one, new_shards,
 };
 use bpf_helpers::{MapTables, WorkerState};
 use bpf_machine::Accepted;
@@ -109,7 +109,7 @@ impl AccessPoint {
         self.programs.put(hook, program);
     }
 
-    /// Handles an event at the shards that it concerns, as `ap_core::handle_all` does, judged by the programs over
+    /// Handles an event at the shards that it concerns, as `ap_core::handle_one` does, judged by the programs over
     /// these maps. None if it is refused for lack of memory, which leaves the readings, the programs and `state`
     /// unchanged.
     pub fn handle(
@@ -128,14 +128,7 @@ impl AccessPoint {
     {
         judged_law();
         let view = view_at(&self.shards, &event, maps);
-        let events = [event];
         let mut judge = ProgramJudge::new(&self.programs, view, state);
-        match handle_all(alloc, &mut self.shards, &events, &mut judge) {
-            Err(_) => return None,
-            Ok(results) => {
-                let result = only_result(results);
-                return result;
-            }
-        }
+        handle_one(alloc, &mut self.shards, &event, &mut judge)
     }
 }

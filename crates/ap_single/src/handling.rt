@@ -1,14 +1,13 @@
-//! One event at eight shards: what programs read, and its result.
+//! What programs read of the shard that an event concerns.
 
-ghost use Rattle.std.specs.Prelude.{◌≡◌, ℕ, length, Some, ◌∷◌, []};
-ghost use Rattle.std.specs.Option.{option_map};
+ghost use Rattle.std.specs.Prelude.{◌≡◌, ℕ, Some};
 ghost use Rattle.bpf_helpers.specs.HookPorts.{given_by};
 ghost use Rattle.ap_model.specs.AccessPoint.{shard_of};
 ghost use Rattle.ap_core.specs.Shards.{reads};
-ghost use Rattle.ap_core.specs.AccessPoints.{readings_of, outs_in};
+ghost use Rattle.ap_core.specs.AccessPoints.{readings_of};
 ghost use Rattle.ap_single.specs.Leading.{IsGiven};
 
-use ap_core::{Event, Out, Shard, shard_of};
+use ap_core::{Event, Shard, shard_of};
 use bpf_helpers::{MapTables, WorkerView};
 
 /// What programs read of this shard.
@@ -34,17 +33,5 @@ pub fn view_at<'t>(shards: &[Shard; 8], event: &Event, maps: &'t [MapTables]) ->
     match shard_of(event) {
         Some(at) => view_of(&shards[at], maps),
         None => view_of(&shards[0], maps),
-    }
-}
-
-/// The only result of a list.
-pub fn only_result(results: Vec<Option<Vec<Out>>>) -> Option<Vec<Out>>
-    requires { length (outs_in results.items) ≡ 1 }
-    ensures { outs_in results.items ≡ option_map (λ outs. outs.items) result ∷ [] }
-{
-    let mut results = results;
-    match results.pop() {
-        Some(result) => result,
-        None => None,
     }
 }

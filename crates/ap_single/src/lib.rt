@@ -9,4 +9,4 @@ mod access_point;
 mod handling;
 
 pub use access_point::AccessPoint;
-pub use handling::{only_result, view_at};
+pub use handling::view_at;
