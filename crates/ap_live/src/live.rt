@@ -35,7 +35,7 @@ pub struct Settings {
 /// An access point. Threads share it by reference.
 #[derive(Drop)]
 pub struct LiveAp<B: Ledgers + Journals> {
-    pub(crate) shards: Shards<B>,
+    pub(crate) shards: Box<Shards<B>>,
     pub(crate) lines: EventLines,
     pub(crate) tables: ApTables,
     pub(crate) entrance: Entrance,

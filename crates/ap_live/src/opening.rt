@@ -1,6 +1,6 @@
 //! A new access point, and the tokens of its users.
 
-ghost use Rattle.std.specs.Prelude.{◌≡◌, ◌-◌, ◌<◌, ◌≤◌, [], IfOk, OnErr, OnOk};
+ghost use Rattle.std.specs.Prelude.{◌≡◌, ◌-◌, ◌<◌, ◌≤◌, [], IfOk, Ok, OnErr, OnOk};
 ghost use Rattle.bpf_helpers.specs.Hooked.{IsFitting, KeepTables};
 ghost use Rattle.versions.specs.Lists.{readers_of};
 ghost use Rattle.ap_queues.specs.Lines.{HasPutNothing, MakesNoMore, MakesOneMore};
@@ -62,17 +62,31 @@ fn open_places(alloc: Global, shapes: &Shapes, workers: u32) -> Result<Places, A
     })
 }
 
+/// Puts shards, tokens and pages that were made each into memory of their own, since they have many parts.
+fn in_boxes<S: Drop, T: Drop, P: Drop>(
+    alloc: Global,
+    made: Result<(S, T, P), AllocError>,
+) -> Result<(Box<S>, Box<T>, Box<P>), AllocError>
+    ensures { IfOk result (λ boxes. made ≡ Ok (boxes.0.value, boxes.1.value, boxes.2.value)) }
+{
+    let (shards, tokens, pages) = made?;
+    let shards = Box::new(alloc, shards)?;
+    let tokens = Box::new(alloc, tokens)?;
+    let pages = Box::new(alloc, pages)?;
+    Ok((shards, tokens, pages))
+}
+
 /// An access point from shards, queues, tables, and a list of published loads.
 fn assembled<B: Ledgers + Journals>(
-    shards: (Shards<B>, ShardTokens<B>, AllPages<B>),
+    shards: (Box<Shards<B>>, Box<ShardTokens<B>>, Box<AllPages<B>>),
     places: Places,
     list: (Publisher, Published),
     draw: u64,
     workers: u32,
 ) -> Opened<B>
     requires some { 0 < workers }
-    requires tokens { shards.1 ≡ whole parts_in_all }
-    requires pages { AreNewPages (parts_in_all - 1) shards.2 }
+    requires tokens { shards.1.value ≡ whole parts_in_all }
+    requires pages { AreNewPages (parts_in_all - 1) shards.2.value }
     requires places { ArePlaces workers list.0.shapes places.lines places.passes places.tables }
     requires empty { list.0.loads ≡ [] }
     requires readers { list.1 ≡ readers_of list.0 workers }
@@ -149,8 +163,7 @@ impl<B: Ledgers + Journals> LiveAp<B> {
             draw,
             workers,
         } = settings;
-        let shards = Shards::open(alloc, &link, new)?;
-        // Freed by one call on each path, since eight shards, queues and tables have many parts.
+        let shards = in_boxes(alloc, Shards::open(alloc, &link, new))?;
         drop(link);
         let places = match open_places(alloc, &shapes, workers) {
             Ok(places) => places,
@@ -159,6 +172,7 @@ impl<B: Ledgers + Journals> LiveAp<B> {
                 return Err(error);
             }
         };
+        // Freed by one call each, since queues and tables have many parts.
         let list = match published(rt, alloc, shapes, workers) {
             Ok(list) => list,
             Err(error) => {
@@ -195,7 +209,7 @@ impl<B: Ledgers + Journals> LiveAp<B> {
             return Err(LineFault::NoPass);
         }
         left.parts -= 1;
-        let shards = left.shards.split_one(&mut left.pages, left.parts);
+        let shards = left.shards.split_one(&mut *left.pages, left.parts);
         Ok(OperatorToken {
             lines,
             seats,
@@ -237,7 +251,7 @@ impl<B: Ledgers + Journals> LiveAp<B> {
             return Err(LineFault::NoPass);
         }
         left.parts -= 1;
-        let shards = left.shards.split_one(&mut left.pages, left.parts);
+        let shards = left.shards.split_one(&mut *left.pages, left.parts);
         Ok(WorkerToken {
             number,
             pass,

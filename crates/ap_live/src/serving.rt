@@ -1,6 +1,10 @@
 //! How a worker serves its queue.
 
-ghost use Rattle.std.specs.Prelude.{◌≡◌, IfNone, IfSome};
+ghost use Rattle.std.specs.Prelude.{◌≡◌, ◌<◌, IfNone, IfSome};
+ghost use Rattle.bpf_helpers.specs.Hooked.{IsFitting};
+ghost use Rattle.ap_shards.specs.Desks.{ByDesk};
+ghost use Rattle.ap_shards.specs.Fates.{ComesAt};
+ghost use Rattle.ap_shards.specs.Judged.{HoldsOn};
 ghost use Rattle.ap_live.specs.Headline.{WorkerHeadline};
 ghost use Rattle.ap_live.specs.Serving.{Becomes, Served, ServedOne, progress_of};
 ghost use Rattle.ap_live.specs.Tokens.{IsWorker};
@@ -13,8 +17,9 @@ use ap_books::Ledgers;
 use ap_laws::run_law;
 use ap_locked::Journals;
 use ap_queues::Item;
-use ap_shards::{Desk, Fate};
+use ap_shards::{Desk, Fate, ShardTokens};
 use core::mem::replace_with;
+use hook_judge::CountedState;
 use std::alloc::{AllocError, Global};
 use std::sync::Wait;
 
@@ -146,8 +151,7 @@ impl<B: Ledgers + Journals> LiveAp<B> {
             maps: self.tables.maps(),
             worker: number,
         };
-        let at = (item.shard, &item.event);
-        let fate = self.shards.decide(rt, &mut shards, desk, &mut state, at);
+        let fate = self.fate_of(rt, &mut shards, desk, &mut state, item);
         let worker = WorkerToken {
             number,
             pass,
@@ -156,5 +160,26 @@ impl<B: Ledgers + Journals> LiveAp<B> {
             shards,
         };
         (worker, fate)
+    }
+
+    /// Decides the event under its shard's lock.
+    fn fate_of<R: Wait>(
+        &self,
+        rt: &R,
+        mine: &mut ShardTokens<B>,
+        desk: Desk<'_, '_>,
+        state: &mut CountedState,
+        item: &Item,
+    ) -> Fate
+        requires { IsFitting desk.maps.now desk.worker state.old.seats }
+        ensures fate { ComesAt (ByDesk desk.entry state.old state.new)
+            B.config item.now.shard mine.old item.now.event result mine.new }
+        ensures holds { HoldsOn result state.old state.new }
+        ensures fitting { IsFitting desk.entry.maps.now desk.entry.worker state.new.seats }
+        ensures inside { item.now.shard < 8 }
+    {
+        let at = (item.shard, &item.event);
+        let fate = self.shards.decide(rt, mine, desk, state, at);
+        fate
     }
 }

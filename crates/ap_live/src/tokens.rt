@@ -50,8 +50,8 @@ pub struct LeftTokens<B: Ledgers + Journals> {
     pub(crate) readers: Published,
     pub(crate) passes: LinePasses,
     pub(crate) parts: u64,
-    pub(crate) shards: ShardTokens<B>,
-    pub(crate) pages: AllPages<B>,
+    pub(crate) shards: Box<ShardTokens<B>>,
+    pub(crate) pages: Box<AllPages<B>>,
 }
 
 impl<B: Ledgers + Journals> Model for LeftTokens<B> {
@@ -63,9 +63,9 @@ impl<B: Ledgers + Journals> Model for LeftTokens<B> {
 
     ghost Value = { Left };
 
-    ghost view = { λ l. record { readers = l.readers; passes = l.passes; parts = l.parts; shards = l.shards; pages = l.pages } };
+    ghost view = { λ l. record { readers = l.readers; passes = l.passes; parts = l.parts; shards = l.shards.value; pages = l.pages.value } };
 
-    ghost invariant = { λ l. HasParts l.parts (holding_of l.shards) × AreNewPages (l.parts - 1) l.pages × (0 < l.parts) × (l.parts ≤ 17) };
+    ghost invariant = { λ l. HasParts l.parts (holding_of l.shards.value) × AreNewPages (l.parts - 1) l.pages.value × (0 < l.parts) × (l.parts ≤ 17) };
 }
 
 impl<B: Ledgers + Journals> OperatorToken<B> {
@@ -87,7 +87,8 @@ impl<B: Ledgers + Journals> OperatorToken<B> {
     pub fn into_shares(self) -> Portions<B>
         ensures { result ≡ holding_of self.shards }
     {
-        let (shares, _pages) = self.into_parts();
+        let (shares, pages) = self.into_parts();
+        drop(pages);
         shares
     }
 }
@@ -136,7 +137,8 @@ impl<B: Ledgers + Journals> WorkerToken<B> {
     pub fn into_shares(self) -> Portions<B>
         ensures { result ≡ holding_of self.shards }
     {
-        let (shares, _pages) = self.into_parts();
+        let (shares, pages) = self.into_parts();
+        drop(pages);
         shares
     }
 }
@@ -163,8 +165,8 @@ impl<B: Ledgers + Journals> LeftTokens<B> {
             passes,
             ..
         } = self;
-        let (shares, mut all) = shards.into_parts();
-        all.merge(pages);
+        let (shares, mut all) = Box::into_inner(shards).into_parts();
+        all.merge(Box::into_inner(pages));
         (shares, all, passes)
     }
 
@@ -184,7 +186,8 @@ impl<B: Ledgers + Journals> LeftTokens<B> {
         ensures is { result ≡ holding_of self.shards }
         ensures parts { HasParts self.parts result }
     {
-        let (shares, _pages) = self.into_parts();
+        let (shares, pages) = self.into_parts();
+        drop(pages);
         shares
     }
 }

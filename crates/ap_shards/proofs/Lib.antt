@@ -2,3 +2,4 @@ pub mod Adding
 pub mod Counted
 pub mod Judging
 pub mod Rows
+pub mod Results

@@ -7,6 +7,7 @@ ghost use Rattle.ap_locked.specs.Tokens.{AreTheJournal, CountJournal, rules};
 ghost use Rattle.ap_shards.specs.Pages.{AreTheJournals, HasPages};
 ghost use Rattle.ap_shards.specs.Tokens.{CountJournals};
 
+use crate::opening::both;
 use crate::pages::AllPages;
 use crate::shards::Shards;
 use ap_books::{Ledgers, Portions, Shares, Totals};
@@ -80,14 +81,21 @@ impl<B: Ledgers + Journals> Shards<B> {
         ensures sum { IfOk result (λ totals. Reads totals (sum_of all.old)) }
         ensures entries { OnOk result (AreTheJournals B.config all.old pages.old) }
     {
-        reconcile_under(rt, &self.of0, &mut all.of0, &mut pages.of0)?;
-        reconcile_under(rt, &self.of1, &mut all.of1, &mut pages.of1)?;
-        reconcile_under(rt, &self.of2, &mut all.of2, &mut pages.of2)?;
-        reconcile_under(rt, &self.of3, &mut all.of3, &mut pages.of3)?;
-        reconcile_under(rt, &self.of4, &mut all.of4, &mut pages.of4)?;
-        reconcile_under(rt, &self.of5, &mut all.of5, &mut pages.of5)?;
-        reconcile_under(rt, &self.of6, &mut all.of6, &mut pages.of6)?;
-        reconcile_under(rt, &self.of7, &mut all.of7, &mut pages.of7)?;
+        let of0 = reconcile_under(rt, &self.of0, &mut all.of0, &mut pages.of0);
+        let of1 = reconcile_under(rt, &self.of1, &mut all.of1, &mut pages.of1);
+        let of2 = reconcile_under(rt, &self.of2, &mut all.of2, &mut pages.of2);
+        let of3 = reconcile_under(rt, &self.of3, &mut all.of3, &mut pages.of3);
+        let of4 = reconcile_under(rt, &self.of4, &mut all.of4, &mut pages.of4);
+        let of5 = reconcile_under(rt, &self.of5, &mut all.of5, &mut pages.of5);
+        let of6 = reconcile_under(rt, &self.of6, &mut all.of6, &mut pages.of6);
+        let of7 = reconcile_under(rt, &self.of7, &mut all.of7, &mut pages.of7);
+        let first = both(of0, of1);
+        let second = both(of2, of3);
+        let third = both(of4, of5);
+        let fourth = both(of6, of7);
+        let low = both(first, second);
+        let high = both(third, fourth);
+        let _done = both(low, high)?;
         Ok(self.gather(rt, all))
     }
 }

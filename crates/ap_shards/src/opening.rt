@@ -47,42 +47,33 @@ impl NewShards {
     }
 }
 
-/// A shard under its lock, a token with all parts of its ledgers and the first page, and the others.
+/// A shard, a token with all parts of its ledgers and the first page, and the other pages, in memory of
+/// their own, since they have many parts.
 #[derive(Drop)]
 struct Opened<B: Ledgers + Journals, const SHARD: usize> {
-    lock: CachePadded<Mutex<Locked<B, SHARD>>>,
-    mine: ShardToken<B, SHARD>,
-    others: Pages<B, SHARD>,
+    all: Box<(Locked<B, SHARD>, ShardToken<B, SHARD>, Pages<B, SHARD>)>,
 }
 
-#[derive(Drop)]
-struct OpenedTwo<B: Ledgers + Journals, const FIRST: usize, const SECOND: usize> {
-    first: Opened<B, FIRST>,
-    second: Opened<B, SECOND>,
-}
-
-#[derive(Drop)]
-struct OpenedFour<
-    B: Ledgers + Journals,
-    const FIRST: usize,
-    const SECOND: usize,
-    const THIRD: usize,
-    const FOURTH: usize,
-> {
-    low: OpenedTwo<B, FIRST, SECOND>,
-    high: OpenedTwo<B, THIRD, FOURTH>,
-}
-
-/// Pairs `kept` with what was made. If making failed, frees `kept` by this one call, since shards
-/// have many parts.
-fn beside<K: Drop, M: Drop>(kept: K, made: Result<M, AllocError>) -> Result<(K, M), AllocError>
-    ensures kept { IfOk result (λ r. r.0 ≡ kept) }
-    ensures made { IfOk result (λ r. made ≡ Ok r.1) }
+/// Puts what was made into memory of its own.
+fn boxed<T: Drop>(alloc: Global, made: Result<T, AllocError>) -> Result<Box<T>, AllocError>
+    ensures { IfOk result (λ b. made ≡ Ok b.value) }
 {
-    match made {
-        Ok(made) => Ok((kept, made)),
-        Err(error) => Err(error),
-    }
+    let value = made?;
+    let value = Box::new(alloc, value)?;
+    Ok(value)
+}
+
+/// Both values, if there are both. Made by one call, since shards have many parts.
+pub(crate) fn both<F: Drop, S: Drop>(
+    first: Result<F, AllocError>,
+    second: Result<S, AllocError>,
+) -> Result<(F, S), AllocError>
+    ensures first { IfOk result (λ r. first ≡ Ok r.0) }
+    ensures second { IfOk result (λ r. second ≡ Ok r.1) }
+{
+    let first = first?;
+    let second = second?;
+    Ok((first, second))
 }
 
 fn open_one<B: Ledgers + Journals, const SHARD: usize>(
@@ -95,21 +86,17 @@ fn open_one<B: Ledgers + Journals, const SHARD: usize>(
     requires config { config.now ≡ B.config }
     requires some { 0 < B.shares }
     requires few { B.shares ≤ 63 }
-    ensures { IfOk result (λ r. IsWholeAt B.shares r.mine r.others) }
+    ensures { IfOk result (λ r. IsWholeAt B.shares r.all.value.1 r.all.value.2) }
 {
-    let (locked, mine, others) = Locked::new(alloc, config, new)?;
-    Ok(Opened {
-        lock: CachePadded::new(Mutex::new(locked)),
-        mine,
-        others,
-    })
+    let all = boxed(alloc, Locked::new(alloc, config, new))?;
+    Ok(Opened { all })
 }
 
 fn open_two<B: Ledgers + Journals, const FIRST: usize, const SECOND: usize>(
     alloc: Global,
     config: &LinkConfig,
     new: (NewShard, NewShard),
-) -> Result<OpenedTwo<B, FIRST, SECOND>, AllocError>
+) -> Result<(Opened<B, FIRST>, Opened<B, SECOND>), AllocError>
     requires first { FIRST < 8 }
     requires second { SECOND < 8 }
     requires named_first { IsNamed (B.name_of FIRST) B.shares (B.journal_of FIRST) new.0 }
@@ -117,12 +104,26 @@ fn open_two<B: Ledgers + Journals, const FIRST: usize, const SECOND: usize>(
     requires config { config.now ≡ B.config }
     requires some { 0 < B.shares }
     requires few { B.shares ≤ 63 }
-    ensures first { IfOk result (λ r. IsWholeAt B.shares r.first.mine r.first.others) }
-    ensures second { IfOk result (λ r. IsWholeAt B.shares r.second.mine r.second.others) }
+    ensures first { IfOk result (λ r. IsWholeAt B.shares r.0.all.value.1 r.0.all.value.2) }
+    ensures second { IfOk result (λ r. IsWholeAt B.shares r.1.all.value.1 r.1.all.value.2) }
 {
-    let (second, first) = beside(new.1, open_one(alloc, config, new.0))?;
-    let (first, second) = beside(first, open_one(alloc, config, second))?;
-    Ok(OpenedTwo { first, second })
+    let first = open_one(alloc, config, new.0);
+    let second = open_one(alloc, config, new.1);
+    let (first, second) = both(first, second)?;
+    Ok((first, second))
+}
+
+/// Four shards, two by two.
+#[derive(Drop)]
+struct OpenedFour<
+    B: Ledgers + Journals,
+    const FIRST: usize,
+    const SECOND: usize,
+    const THIRD: usize,
+    const FOURTH: usize,
+> {
+    low: (Opened<B, FIRST>, Opened<B, SECOND>),
+    high: (Opened<B, THIRD>, Opened<B, FOURTH>),
 }
 
 fn open_four<
@@ -147,13 +148,14 @@ fn open_four<
     requires config { config.now ≡ B.config }
     requires some { 0 < B.shares }
     requires few { B.shares ≤ 63 }
-    ensures first { IfOk result (λ r. IsWholeAt B.shares r.low.first.mine r.low.first.others) }
-    ensures second { IfOk result (λ r. IsWholeAt B.shares r.low.second.mine r.low.second.others) }
-    ensures third { IfOk result (λ r. IsWholeAt B.shares r.high.first.mine r.high.first.others) }
-    ensures fourth { IfOk result (λ r. IsWholeAt B.shares r.high.second.mine r.high.second.others) }
+    ensures first { IfOk result (λ r. IsWholeAt B.shares r.low.0.all.value.1 r.low.0.all.value.2) }
+    ensures second { IfOk result (λ r. IsWholeAt B.shares r.low.1.all.value.1 r.low.1.all.value.2) }
+    ensures third { IfOk result (λ r. IsWholeAt B.shares r.high.0.all.value.1 r.high.0.all.value.2) }
+    ensures fourth { IfOk result (λ r. IsWholeAt B.shares r.high.1.all.value.1 r.high.1.all.value.2) }
 {
-    let (high, low) = beside(new.1, open_two(alloc, config, new.0))?;
-    let (low, high) = beside(low, open_two(alloc, config, high))?;
+    let low = open_two(alloc, config, new.0);
+    let high = open_two(alloc, config, new.1);
+    let (low, high) = both(low, high)?;
     Ok(OpenedFour { low, high })
 }
 
@@ -163,62 +165,67 @@ fn joined<B: Ledgers + Journals>(
     high: OpenedFour<B, 4, 5, 6, 7>,
 ) -> (Shards<B>, ShardTokens<B>, AllPages<B>)
     ensures tokens { result.1 ≡ record {
-      of0 = low.low.first.mine;
-      of1 = low.low.second.mine;
-      of2 = low.high.first.mine;
-      of3 = low.high.second.mine;
-      of4 = high.low.first.mine;
-      of5 = high.low.second.mine;
-      of6 = high.high.first.mine;
-      of7 = high.high.second.mine;
+      of0 = low.low.0.all.value.1;
+      of1 = low.low.1.all.value.1;
+      of2 = low.high.0.all.value.1;
+      of3 = low.high.1.all.value.1;
+      of4 = high.low.0.all.value.1;
+      of5 = high.low.1.all.value.1;
+      of6 = high.high.0.all.value.1;
+      of7 = high.high.1.all.value.1;
     } }
     ensures pages { result.2 ≡ record {
-      of0 = low.low.first.others.pages;
-      of1 = low.low.second.others.pages;
-      of2 = low.high.first.others.pages;
-      of3 = low.high.second.others.pages;
-      of4 = high.low.first.others.pages;
-      of5 = high.low.second.others.pages;
-      of6 = high.high.first.others.pages;
-      of7 = high.high.second.others.pages;
+      of0 = low.low.0.all.value.2.pages;
+      of1 = low.low.1.all.value.2.pages;
+      of2 = low.high.0.all.value.2.pages;
+      of3 = low.high.1.all.value.2.pages;
+      of4 = high.low.0.all.value.2.pages;
+      of5 = high.low.1.all.value.2.pages;
+      of6 = high.high.0.all.value.2.pages;
+      of7 = high.high.1.all.value.2.pages;
     } }
 {
-    let OpenedTwo { first, second } = low.high;
-    let (third, fourth) = (first, second);
-    let OpenedTwo { first, second } = high.low;
-    let (fifth, sixth) = (first, second);
-    let OpenedTwo { first, second } = high.high;
-    let (seventh, eighth) = (first, second);
-    let OpenedTwo { first, second } = low.low;
+    let (of0, of1) = low.low;
+    let (of2, of3) = low.high;
+    let (of4, of5) = high.low;
+    let (of6, of7) = high.high;
+    let (lock0, token0, page0) = Box::into_inner(of0.all);
+    let (lock1, token1, page1) = Box::into_inner(of1.all);
+    let (lock2, token2, page2) = Box::into_inner(of2.all);
+    let (lock3, token3, page3) = Box::into_inner(of3.all);
+    let (lock4, token4, page4) = Box::into_inner(of4.all);
+    let (lock5, token5, page5) = Box::into_inner(of5.all);
+    let (lock6, token6, page6) = Box::into_inner(of6.all);
+    let (lock7, token7, page7) = Box::into_inner(of7.all);
     let shards = Shards {
-        of0: first.lock,
-        of1: second.lock,
-        of2: third.lock,
-        of3: fourth.lock,
-        of4: fifth.lock,
-        of5: sixth.lock,
-        of6: seventh.lock,
-        of7: eighth.lock,
+        of0: CachePadded::new(Mutex::new(lock0)),
+        of1: CachePadded::new(Mutex::new(lock1)),
+        of2: CachePadded::new(Mutex::new(lock2)),
+        of3: CachePadded::new(Mutex::new(lock3)),
+        of4: CachePadded::new(Mutex::new(lock4)),
+        of5: CachePadded::new(Mutex::new(lock5)),
+        of6: CachePadded::new(Mutex::new(lock6)),
+        of7: CachePadded::new(Mutex::new(lock7)),
     };
     let tokens = ShardTokens {
-        of0: first.mine,
-        of1: second.mine,
-        of2: third.mine,
-        of3: fourth.mine,
-        of4: fifth.mine,
-        of5: sixth.mine,
-        of6: seventh.mine,
-        of7: eighth.mine,
+        of0: token0,
+        of1: token1,
+        of2: token2,
+        of3: token3,
+        of4: token4,
+        of5: token5,
+        of6: token6,
+        of7: token7,
     };
     let pages = AllPages {
-        of0: first.others,
-        of1: second.others,
-        of2: third.others,
-        of3: fourth.others,
-        of4: fifth.others,
-        of5: sixth.others,
-        of6: seventh.others,
-        of7: eighth.others,
+        of0: page0,
+        of1: page1,
+        of2: page2,
+        of3: page3,
+        of4: page4,
+        of5: page5,
+        of6: page6,
+        of7: page7,
     };
     (shards, tokens, pages)
 }
@@ -251,9 +258,9 @@ impl<B: Ledgers + Journals> Shards<B> {
             of6,
             of7,
         } = new;
-        let last = ((of4, of5), (of6, of7));
-        let (last, low) = beside(last, open_four(alloc, config, ((of0, of1), (of2, of3))))?;
-        let (low, high) = beside(low, open_four(alloc, config, last))?;
+        let low = open_four(alloc, config, ((of0, of1), (of2, of3)));
+        let high = open_four(alloc, config, ((of4, of5), (of6, of7)));
+        let (low, high) = both(low, high)?;
         Ok(joined(low, high))
     }
 }

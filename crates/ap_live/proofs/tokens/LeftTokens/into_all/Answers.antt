@@ -8,7 +8,7 @@ pub returns-clause-count : goal.returns-clause-count
 returns-clause-count g c =
     let parts = c.self.inside.parts in
     let one : HasPages 1 c.into_parts-shares.result.1 = subst (HasPages 1) (sym c.into_parts-shares.ensures.pages) (refl, refl, refl, refl, refl, refl, refl, refl) in
-    let rest : HasPages (parts - 1) c.self.inside.pages = new_count (parts - 1) c.self.inside.pages c.self.invariant.1 in
+    let rest : HasPages (parts - 1) c.into_inner-2.result = subst (HasPages (parts - 1)) (sym c.into_inner-2.ensures) (new_count (parts - 1) c.self.inside.pages.value c.self.invariant.1) in
     let all : 1 + (parts - 1) ≡ parts = omega (arith, c.self.invariant.2) in
     subst (λ (n : ℕ). HasPages n c.merge.new.self) (all ∙ ap (λ (l : Left). l.parts) c.self.view_is) (c.merge.ensures.count 1 (parts - 1) one rest)
 

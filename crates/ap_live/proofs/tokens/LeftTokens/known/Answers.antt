@@ -5,4 +5,4 @@ use Rattle.ap_live.proofs.Upheld.{all_uphold}
 use Rattle.ap_live.proofs.tokens.LeftTokens.known.Goals as goal
 
 pub returns-clause-upholds : goal.returns-clause-upholds
-returns-clause-upholds g c = subst (λ (t : Left). UpholdAll g.B.Journals.config t.shards) c.self.view_is (all_uphold c.run_law.ensures g.B.Journals.config c.self.inside.shards c.known.ensures)
+returns-clause-upholds g c = subst (λ (t : Left). UpholdAll g.B.Journals.config t.shards) c.self.view_is (subst (UpholdAll g.B.Journals.config) c.deref.ensures (all_uphold c.run_law.ensures g.B.Journals.config c.deref.result.now c.known.ensures))
