@@ -93,14 +93,7 @@ where
         words.push(word.as_str()).map_err(AllocError::from)?;
     }
     let mut files = RealFiles::new(rt);
-    let (_, status) = apd_entry::perform(
-        rt,
-        alloc,
-        words.as_slice(),
-        &mut files,
-        streams,
-        messages,
-    );
+    let (_, status) = apd_entry::perform(rt, words.as_slice(), &mut files, streams, messages);
     Ok(status)
 }
 

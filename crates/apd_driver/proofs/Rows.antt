@@ -1,5 +1,5 @@
 -- Lists that are written row by row.
-use Rattle.std.proofs.Common.{◌≡◌, ℕ, suc, ◌+◌, ◌<◌, List, [], ◌++◌, length, drop, get_or, sym, ap, ◌∙◌, append_assoc, drop-cons, add-one}
+use Rattle.std.proofs.Common.{◌≡◌, ℕ, suc, ◌+◌, ◌<◌, List, ◌++◌, length, drop, get_or, sym, ap, ◌∙◌, append_assoc, drop-cons, add-one}
 use Rattle.std.specs.List.{flat_map}
 
 -- one more row
@@ -13,11 +13,11 @@ row_more f rows i row old new all within is before written =
     ap (λ l. l ++ rest) written ∙ append_assoc old (f row) rest ∙ ap (λ l. old ++ l) (sym next) ∙ before
 
 -- rows, and what is written behind them
-pub listed : (empty first all rows end : List ℕ) → empty ≡ [] → first ≡ empty ++ rows → all ≡ first ++ end → all ≡ rows ++ end
-listed empty first all rows end none written behind = behind ∙ ap (λ l. l ++ end) (written ∙ ap (λ l. l ++ rows) none)
+pub listed : (old first all rows end : List ℕ) → first ≡ old ++ rows → all ≡ first ++ end → all ≡ old ++ (rows ++ end)
+listed old first all rows end written behind = behind ∙ ap (λ l. l ++ end) written ∙ append_assoc old rows end
 
 -- the same behind a head
-pub listed_behind : (empty first second all head rows end : List ℕ) → empty ≡ [] → first ≡ empty ++ head → second ≡ first ++ rows → all ≡ second ++ end
-    → all ≡ head ++ (rows ++ end)
-listed_behind empty first second all head rows end none before written behind =
-    behind ∙ ap (λ l. l ++ end) (written ∙ ap (λ l. l ++ rows) (before ∙ ap (λ l. l ++ head) none)) ∙ append_assoc head rows end
+pub listed_behind : (old first second all head rows end : List ℕ) → first ≡ old ++ head → second ≡ first ++ rows → all ≡ second ++ end
+    → all ≡ old ++ (head ++ (rows ++ end))
+listed_behind old first second all head rows end before written behind =
+    listed first second all rows end written behind ∙ ap (λ l. l ++ (rows ++ end)) before ∙ append_assoc old head (rows ++ end)

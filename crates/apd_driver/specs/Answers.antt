@@ -9,8 +9,7 @@ use Rattle.bpf_regions.specs.declared.maps.Scope.{Scope}
 use Rattle.bpf_regions.specs.declared.maps.Scope.TheVariants.{Shared, Worker}
 use Rattle.bpf_regions.specs.declared.maps.Shape.{Shape}
 use Rattle.mac_types.specs.Texts.{address_text}
-use Rattle.ap_books.specs.declared.totals.Totals.{Totals}
-use Rattle.apd_driver.specs.Words.{then}
+use Rattle.apd_driver.specs.Words.{then, counter_words}
 use Rattle.apd_driver.specs.Lines.{line_of}
 use Rattle.apd_driver.specs.declared.answers.answer.StationRow.{StationRow}
 use Rattle.apd_driver.specs.declared.answers.answer.AgreementRow.{AgreementRow}
@@ -82,13 +81,6 @@ program_text r = program_words r ++ says_text r.says.items
 -- an entry's index and its words
 abbrev pub entry_words : EntryRow → List ℕ
 entry_words r = decimal r.index ++ numbers_text r.words.items
-
--- `events N sent N up N dropped N notes N`
-abbrev pub counter_words : Totals → List ℕ
-counter_words t =
-    then (codes "events") (then (decimal t.events) (then (codes "sent") (then (decimal t.sent)
-    (then (codes "up") (then (decimal t.up) (then (codes "dropped") (then (decimal t.dropped)
-    (then (codes "notes") (decimal t.notes)))))))))
 
 -- a line for each row, and then the line `end` with how many they are
 abbrev pub list_text : {A : Type 0} → (A → List ℕ) → ℕ → List A → List ℕ

@@ -9,7 +9,7 @@ use Rattle.apd_driver.specs.Colours.{colour_in, painted}
 use Rattle.apd_driver.specs.Json.{drop_json, json_line, loaded_members, outs_json}
 use Rattle.apd_driver.specs.Notices.{notice_of}
 use Rattle.apd_driver.specs.NoticeTexts.{drop_words, notice_words}
-use Rattle.apd_driver.specs.Words.{then, out_words}
+use Rattle.apd_driver.specs.Words.{then, counter_words, out_words}
 use Rattle.apd_driver.specs.declared.reports.notice.Dropped.{Dropped}
 use Rattle.apd_driver.specs.declared.reports.notice.Notice.{Notice}
 use Rattle.apd_driver.specs.declared.reports.report.Form.{Form}
@@ -27,19 +27,22 @@ line_of number words = then (decimal number) (words ++ 10 ∷ [])
 abbrev pub outs_text : ℕ → List Out → List ℕ
 outs_text number outs = flat_map (λ o. line_of number (out_words o)) outs
 
+-- the words of a report without outputs
+abbrev pub told_words : Told → List ℕ
+told_words (told.Handled outs dropped) = []
+told_words told.Memory = codes "memory"
+told_words (told.Loaded budget slots) = then (codes "loaded") (decimal budget)
+told_words (told.Fault fault) = fault_text fault
+told_words (told.Refused fault slot) = codes "refused " ++ decimal fault ++ codes " at " ++ decimal slot
+told_words (told.Certificate fault) = then (codes "certificate") (decimal fault)
+told_words (told.Unreadable why) = codes "unreadable"
+told_words (told.Word value) = then (codes "word") (decimal value)
+told_words (told.Malformed why) = then (codes "error") (string_bytes why)
+
 -- the report on a line of a script, as text
 abbrev pub told_text : ℕ → Told → List ℕ
 told_text number (told.Handled outs dropped) = outs_text number outs.items
-told_text number told.Memory = line_of number (codes "memory")
-told_text number (told.Loaded budget slots) = line_of number (then (codes "loaded") (decimal budget))
-told_text number (told.Fault fault) = line_of number (fault_text fault)
-told_text number (told.Refused fault slot) =
-    line_of number (codes "refused " ++ decimal fault ++ codes " at " ++ decimal slot)
-told_text number (told.Certificate fault) =
-    line_of number (then (codes "certificate") (decimal fault))
-told_text number (told.Unreadable why) = line_of number (codes "unreadable")
-told_text number (told.Word value) = line_of number (then (codes "word") (decimal value))
-told_text number (told.Malformed why) = line_of number (then (codes "error") (string_bytes why))
+told_text number told = line_of number (told_words told)
 
 -- the line of what a frame means to its station
 abbrev pub notice_line : ℕ → Option Notice → List ℕ
@@ -93,9 +96,6 @@ report_text f r = formed_text f r.line r.told
 abbrev pub reports_text : Form → List Report → List ℕ
 reports_text f reports = flat_map (report_text f) reports
 
--- the last line of a run
+-- the last line of a run: `total`, and what was counted
 abbrev pub totals_text : Totals → List ℕ
-totals_text t =
-    codes "total events " ++ (decimal t.events ++ (codes " sent " ++ (decimal t.sent
-    ++ (codes " up " ++ (decimal t.up ++ (codes " dropped " ++ (decimal t.dropped
-    ++ (codes " notes " ++ (decimal t.notes ++ 10 ∷ [])))))))))
+totals_text t = then (codes "total") (counter_words t ++ 10 ∷ [])

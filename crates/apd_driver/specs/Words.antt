@@ -2,6 +2,7 @@
 use Rattle.std.specs.Prelude.{ℕ, List, [], ◌∷◌, ◌++◌, codes, decimal, Option, Some, None}
 use Rattle.hex.specs.Hex.{encode_lower}
 use Rattle.mac_types.specs.Texts.{address_text}
+use Rattle.ap_books.specs.declared.totals.Totals.{Totals}
 use Rattle.ap_model.specs.declared.event.Out.{Out}
 use Rattle.ap_model.specs.declared.event.Out.TheVariants.{Send, Up, Note}
 use Rattle.ap_model.specs.declared.event.Up as passed
@@ -31,3 +32,10 @@ abbrev pub out_words : Out → List ℕ
 out_words (Send frame) = then (codes "send") (encode_lower frame)
 out_words (Up u) = then (codes "up") (up_words u)
 out_words (Note number) = then (codes "note") (decimal number)
+
+-- `events N sent N up N dropped N notes N`
+abbrev pub counter_words : Totals → List ℕ
+counter_words t =
+    then (codes "events") (then (decimal t.events) (then (codes "sent") (then (decimal t.sent)
+    (then (codes "up") (then (decimal t.up) (then (codes "dropped") (then (decimal t.dropped)
+    (then (codes "notes") (decimal t.notes)))))))))

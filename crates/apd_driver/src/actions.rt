@@ -12,7 +12,7 @@ use bpf_regions::Hook;
 use std::alloc::{AllocError, Global};
 
 /// The program of a hook changes.
-#[derive(Clone, Copy, PartialEq, Eq)]
+#[derive(Clone, Copy)]
 pub enum Publication<'a> {
     /// The code in a file becomes the hook's program if the verifier accepts it.
     Load {
@@ -30,7 +30,7 @@ pub enum Publication<'a> {
 }
 
 /// A word of a map is used.
-#[derive(Clone, Copy, PartialEq, Eq)]
+#[derive(Clone, Copy)]
 pub enum WordUse {
     /// A word of a shared map is written.
     Store { word: MapWord, value: u64 },

@@ -175,12 +175,12 @@ impl<S: Source + Drop> Input<S> {
 fn do_batch<W: Serving + Drop, O: Operating<W> + Drop, R: Wait, P: Console>(
     setting: &Setting<'_, W, R>,
     staff: &mut Staff<W, O>,
-    batch: Batch<'_>,
+    batch: &Batch<'_>,
     number: u64,
     writer: &mut P,
 ) -> Result<Found, PrintFault>
     requires home { vec_len staff.old.workers ≡ length setting.now.desks.now }
-    requires whole { after_wait batch.commands.items ≡ [] }
+    requires whole { after_wait batch.now.commands.items ≡ [] }
     ensures home { OnOk result (vec_len staff.new.workers ≡ length setting.now.desks.now) }
     ensures workers { OnOk result
         ((O.crew staff.new.operator).workers ≡ (O.crew staff.old.operator).workers) }
@@ -241,7 +241,9 @@ impl<S: Source + Drop> Input<S> {
             left: batch.rest.len(),
             quits: begins_with_quit(batch.rest),
         };
-        let found = do_batch(setting, staff, batch, number, writer)?;
+        let done = do_batch(setting, staff, &batch, number, writer);
+        drop(batch);
+        let found = done?;
         Ok(Passed { found, step })
     }
 }

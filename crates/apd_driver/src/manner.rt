@@ -3,7 +3,7 @@
 use crate::Form;
 
 /// How a run goes on, and how it prints.
-#[derive(Clone, Copy, PartialEq, Eq)]
+#[derive(Clone, Copy)]
 pub struct Manner {
     /// Whether a line at fault ends the run after its interval.
     pub strict: bool,

@@ -15,3 +15,4 @@ pub use notice::{Dropped, Meaning, Notice};
 pub use order::put_in_order;
 pub use printing::{PrintFault, print_reports, print_totals};
 pub use report::{Form, Report, Style, Told, Unread};
+pub(crate) use words::CounterWords;

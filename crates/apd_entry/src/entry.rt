@@ -17,9 +17,8 @@ use crate::lines::run_live;
 use apd_driver::{Form, Manner, Recording};
 use apd_files::{Files, Tapes};
 use apd_program::{Posed, ProgramFault, complain, judge_cases, respond, tell};
-use apd_run::{OpenGate, Progress, RunWords, Streams, Supplies, run};
+use apd_run::{OpenGate, Progress, RunWords, Streams, Surroundings, run};
 use apd_words::{LiveRun, Request, ScriptRun, read_words};
-use std::alloc::Global;
 use std::io::{Read, Write};
 use std::sync::Wait;
 use std::thread::Threads;
@@ -56,14 +55,13 @@ fn words_of<'a>(asked: ScriptRun<'a>) -> RunWords<'a>
 /// Runs a script, and reports its progress to whoever watches, if wanted.
 fn run_watched<R, F, P, E>(
     rt: &R,
-    alloc: Global,
     asked: ScriptRun<'_>,
     files: &mut F,
     out: P,
     messages: Messages<'_, E>,
 ) -> (P, u8)
 where
-    R: Threads + Wait + Sync + Clock + Eprint,
+    R: Threads + Wait + Sync + Clock + Eprint + AllocGlobal,
     F: Files,
     P: Recording + Drop,
     E: Write,
@@ -74,37 +72,41 @@ where
         (AreKnown P.recorded) (in_lines asked.entry.strict).form
         (P.contents out) (P.contents result.0) (P.recorded out) (P.recorded result.0) }
 {
-    let Messages { err, watched } = messages;
+    let alloc = rt.alloc();
+    let watched = messages.watched;
+    let mut messages = messages;
+    let err = &mut *messages.err;
     let words = words_of(asked);
     let limits = limits::within(asked.states, asked.work);
     if watched && !asked.quiet {
         let progress = Progress::new(rt);
-        let supplies = Supplies {
+        let surroundings = Surroundings {
             files,
             limits,
             gate: &progress,
+            err,
         };
-        return run(rt, alloc, words, supplies, out, err);
+        return run(rt, alloc, words, surroundings, out);
     }
-    let supplies = Supplies {
+    let surroundings = Surroundings {
         files,
         limits,
         gate: OpenGate,
+        err,
     };
-    run(rt, alloc, words, supplies, out, err)
+    run(rt, alloc, words, surroundings, out)
 }
 
 /// Runs a script, with a capture if that is wanted.
 fn run_script<R, F, O, E>(
     rt: &R,
-    alloc: Global,
     asked: ScriptRun<'_>,
     files: &mut F,
     out: O,
     messages: Messages<'_, E>,
 ) -> (O, u8)
 where
-    R: Threads + Wait + Sync + Clock + Eprint,
+    R: Threads + Wait + Sync + Clock + Eprint + AllocGlobal,
     F: Files + Tapes,
     O: Write + Drop,
     E: Write,
@@ -116,14 +118,15 @@ where
         → KeepsInPlace (AreWritten O.contents) (F.held files.old) asked.entry.script.now
         (in_lines asked.entry.strict) (O.contents out) (O.contents result.0) }
 {
+    let alloc = rt.alloc();
     if is_in_place(asked.capture) {
         let out = in_place(alloc, out);
-        let (out, status) = run_watched(rt, alloc, asked, files, out, messages);
+        let (out, status) = run_watched(rt, asked, files, out, messages);
         return (out.capture.tape, status);
     }
     match beside(alloc, asked.capture, files, out) {
         Ok(out) => {
-            let (out, status) = run_watched(rt, alloc, asked, files, out, messages);
+            let (out, status) = run_watched(rt, asked, files, out, messages);
             (out.lines, status)
         }
         Err(out) => (out, complain(alloc, &ProgramFault::NoMemory, messages.err)),
@@ -133,14 +136,13 @@ where
 /// Runs lines as they come on an input, with a capture if that is wanted.
 fn run_input<R, F, I, O, E>(
     rt: &R,
-    alloc: Global,
     asked: LiveRun<'_>,
     files: &mut F,
     streams: Streams<I, O>,
     err: &mut E,
 ) -> (O, u8)
 where
-    R: Threads + Wait + Clock + Copy + Send + Sync + 'static,
+    R: Threads + Wait + Clock + AllocGlobal + Copy + Send + Sync + 'static,
     F: Files + Tapes,
     I: Read + Drop + Send + 'static,
     O: Write + Drop,
@@ -155,6 +157,7 @@ where
         (form_named streams.shown (text_of asked.entry.events) (text_of asked.entry.color))
         (O.contents streams.out) (O.contents result.0) }
 {
+    let alloc = rt.alloc();
     let Streams {
         input,
         out,
@@ -168,7 +171,7 @@ where
             typed,
             shown,
         };
-        let (out, status) = run_live(rt, alloc, asked, files, streams, err);
+        let (out, status) = run_live(rt, asked, files, streams, err);
         return (out.capture.tape, status);
     }
     match beside(alloc, asked.capture, files, out) {
@@ -179,7 +182,7 @@ where
                 typed,
                 shown,
             };
-            let (out, status) = run_live(rt, alloc, asked, files, streams, err);
+            let (out, status) = run_live(rt, asked, files, streams, err);
             (out.lines, status)
         }
         Err(out) => (out, complain(alloc, &ProgramFault::NoMemory, err)),
@@ -200,14 +203,13 @@ fn output_of<I: Drop, O: Drop>(streams: Streams<I, O>) -> O
 /// words, a configuration, a script, a file, a read or a write; 3 for lack of memory.
 pub fn perform<'a, R, F, I, O, E>(
     rt: &R,
-    alloc: Global,
     words: &'a [&'a str],
     files: &mut F,
     streams: Streams<I, O>,
     messages: Messages<'_, E>,
 ) -> (O, u8)
 where
-    R: Threads + Wait + Clock + Eprint + Copy + Send + Sync + 'static,
+    R: Threads + Wait + Clock + Eprint + AllocGlobal + Copy + Send + Sync + 'static,
     F: Files + Tapes,
     I: Read + Drop + Send + 'static,
     O: Write + Drop,
@@ -218,12 +220,13 @@ where
         → result.1 < 2 → CapturesInPlace streams.shown (AreWritten O.contents) (F.held files.old) w
         (O.contents streams.out) (O.contents result.0) }
 {
+    let alloc = rt.alloc();
     match read_words(alloc, words) {
         Ok(Request::Run(asked)) => {
             let out = output_of(streams);
-            run_script(rt, alloc, asked, files, out, messages)
+            run_script(rt, asked, files, out, messages)
         }
-        Ok(Request::Live(asked)) => run_input(rt, alloc, asked, files, streams, messages.err),
+        Ok(Request::Live(asked)) => run_input(rt, asked, files, streams, messages.err),
         Ok(Request::Answer(query)) => {
             let mut out = output_of(streams);
             let posed = Posed { query, clock: rt };

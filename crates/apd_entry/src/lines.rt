@@ -11,9 +11,8 @@ use crate::limits::within;
 use apd_driver::{Direct, Form, Manner, Recording, Style, Timed};
 use apd_files::Files;
 use apd_program::{ProgramFault, complain};
-use apd_run::{OpenGate, RunWords, Streams, Supplies, live};
+use apd_run::{OpenGate, RunWords, Streams, Surroundings, live};
 use apd_words::LiveRun;
-use std::alloc::Global;
 use std::io::{self, Input, Read, Write};
 use std::sync::Wait;
 use std::thread::Threads;
@@ -122,14 +121,13 @@ fn words_of<'a>(asked: LiveRun<'a>, form: Form, typed: bool) -> RunWords<'a>
 /// style or `--color` is another word, and 3 if there is no memory for the thread that reads beside a clock.
 pub(crate) fn run_live<R, F, I, O, E>(
     rt: &R,
-    alloc: Global,
     asked: LiveRun<'_>,
     files: &mut F,
     streams: Streams<I, O>,
     err: &mut E,
 ) -> (O, u8)
 where
-    R: Threads + Wait + Clock + Copy + Send + Sync + 'static,
+    R: Threads + Wait + Clock + AllocGlobal + Copy + Send + Sync + 'static,
     F: Files,
     I: Read + Drop + Send + 'static,
     O: Recording + Drop,
@@ -143,6 +141,7 @@ where
         (O.contents streams.out) (O.contents result.0)
         (O.recorded streams.out) (O.recorded result.0) }
 {
+    let alloc = rt.alloc();
     let Streams {
         input,
         out,
@@ -153,11 +152,7 @@ where
         return (out, complain(alloc, &unformed(asked.events), err));
     };
     let words = words_of(asked, form, typed);
-    let supplies = Supplies {
-        files,
-        limits: within(asked.states, asked.work),
-        gate: OpenGate,
-    };
+    let limits = within(asked.states, asked.work);
     if !asked.clock {
         let streams = Streams {
             input: Direct { input },
@@ -165,7 +160,13 @@ where
             typed,
             shown,
         };
-        return live(rt, alloc, words, supplies, streams, err);
+        let surroundings = Surroundings {
+            files,
+            limits,
+            gate: OpenGate,
+            err,
+        };
+        return live(rt, alloc, words, surroundings, streams);
     }
     match Timed::start(rt, alloc, rt, input) {
         Ok(input) => {
@@ -175,7 +176,13 @@ where
                 typed,
                 shown,
             };
-            live(rt, alloc, words, supplies, streams, err)
+            let surroundings = Surroundings {
+                files,
+                limits,
+                gate: OpenGate,
+                err,
+            };
+            live(rt, alloc, words, surroundings, streams)
         }
         Err(_) => (out, complain(alloc, &ProgramFault::NoMemory, err)),
     }

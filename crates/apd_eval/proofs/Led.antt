@@ -1,7 +1,6 @@
 -- What one event leads to, by the verdicts of programs.
-use Rattle.std.proofs.Common.{◌≡◌, ℕ, Option, Some, None, List, [], ◌∷◌, subst, Bor, Result, Ok, Err, IfOk}
+use Rattle.std.proofs.Common.{◌≡◌, ℕ, Option, Some, None, List, [], ◌∷◌, subst, Bor}
 use Rattle.std.specs.Option.{option_map}
-use Rattle.std.specs.declared.alloc.AllocError.{AllocError}
 use Rattle.bpf_helpers.specs.declared.worker.WorkerView.{WorkerView}
 use Rattle.bpf_helpers.specs.HookPorts.{given_by}
 use Rattle.ap_model.specs.declared.event.Event.{Event}
@@ -15,7 +14,6 @@ use Rattle.apd_eval.specs.Rulings.{GivesRuling}
 use Rattle.apd_eval.specs.Witnesses.{Witnesses, heard_by}
 use Rattle.ap_single.specs.Leading.{IsGiven}
 use Rattle.apd_eval.specs.Leading.{Leads}
-use Rattle.apd_eval.specs.declared.handling.Handled.{Handled}
 use Rattle.apd_eval.specs.declared.ruling.Ruling.{Ruling}
 use Rattle.apd_eval.specs.declared.tried.Policy.{Policy}
 use Rattle.apd_eval.specs.declared.witness.Witness.{Witness}
@@ -42,10 +40,3 @@ module _ (p : Policy) (e : Event) (shards shards' : List Shard) (j k : Witness) 
         };
         rules = ran.rules;
       }
-
-  -- the same of an event that may be refused
-  pub all_led : (r : Result Handled AllocError) → IfOk r (λ h. RunsAll Witnesses shards (e ∷ []) j (option_map (λ outs. outs.items) h.outs ∷ []) shards' k) → IfOk r (λ h. h.last ≡ k.last)
-      → j.programs ≡ p.programs → j.view ≡ v → ((s : ℕ) → shard_of e ≡ Some s → IsGiven p.maps.now (readings_of shards s) (given_by v)) → j.last ≡ None
-      → IfOk r (λ h. Leads p e (option_map (λ outs. outs.items) h.outs) h.last shards j.state.now shards' k.state.now)
-  all_led (Ok h) ran is same viewed reads unasked = led (option_map (λ outs. outs.items) h.outs) h.last ran is same viewed reads unasked
-  all_led (Err error) ran is same viewed reads unasked = tt

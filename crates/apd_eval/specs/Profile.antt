@@ -11,12 +11,15 @@ use Rattle.ap_model.specs.Asks.{Ask}
 use Rattle.ap_model.specs.Readings.{Config}
 use Rattle.apd_policies.specs.Overlays.{Steps}
 use Rattle.apd_policies.specs.Graph.{IsGraph}
+use Rattle.program_judge.specs.Programs.{no_programs, replaced}
 use Rattle.apd_eval.specs.Again.{query_of}
 use Rattle.apd_eval.specs.Evaluated.{IsJudged, judged_by}
 use Rattle.apd_eval.specs.Sums.{sums_text}
 use Rattle.apd_eval.specs.Table.{column}
 use Rattle.apd_eval.specs.Visits.{Passes, times}
 use Rattle.apd_eval.specs.declared.row.Row.{Row}
+use Rattle.apd_eval.specs.declared.sums.Course.{Course}
+use Rattle.apd_eval.specs.declared.tried.Tried.{Tried}
 use Rattle.apd_eval.specs.declared.profiling.Spot.{Spot}
 use Rattle.apd_eval.specs.declared.ruling.Ruling.{Ruling}
 use Rattle.apd_eval.specs.declared.profiling.ProfileForm.{ProfileForm}
@@ -96,3 +99,10 @@ pub record IsProfile (v : Verified) (draw : ℕ) (config : Config) (packets : Li
   pub are : AreRuns v packets rows runs
   pub each : (slot : ℕ) → slot < length v.code.slots → slice_index counts slot ≡ steps_at slot runs % 2 ^ 64
   pub formed : IsFormed form v.code.slots counts (sums_text (judged_by v config packets) rows (is_json form)) text
+
+-- a program alone, with maps of its own, a count of 0 for each of its slots, and what is judged by it
+pub record IsUncounted (v : Verified) (tested : Tried) (counts : List ℕ) (course : Course) : Type 0 where
+  pub programs : tested.programs ≡ replaced v.hook (no_programs v.code.shapes) (Some v)
+  pub zeros : counts ≡ replicate (length v.code.slots) 0
+  pub hook_is : course.hook ≡ v.hook
+  pub budget_is : course.budget ≡ v.budget

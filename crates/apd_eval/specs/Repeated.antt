@@ -49,6 +49,12 @@ figures_below rows count figures json =
 abbrev pub figures_text : List Row → ℕ → Option Figures → Bool → List ℕ
 figures_text rows count figures json = figures_below (length rows) count figures json
 
+-- how long a run on the queries of so many rows took, in so many rounds; nothing without rows
+pub record IsMeasured (rows count : ℕ) (json : Bool) (text : List ℕ) : Type 0 where
+  pub figures : Option Figures
+  pub told : IsTold count figures
+  pub is : text ≡ figures_below rows count figures json
+
 -- the table of the program's rows, and below it how long a run took in so many rounds
 pub record IsRepeated (v : Verified) (draw : ℕ) (config : Config) (packets : List Seen) (json : Bool) (count : ℕ) (text : List ℕ) : Type 0 where
   pub rows : List Row

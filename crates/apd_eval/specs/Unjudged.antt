@@ -105,15 +105,19 @@ unfoldable pub with_part : List ℕ → ℕ → List ℕ → List ℕ
 with_part text n what =
     (if n == 0 then text else text ++ (separator text ++ (decimal n ++ (codes " " ++ what))))
 
--- the list of reasons that apply, with how many packets each
-abbrev pub parts_text : Hook → Reasons → List ℕ
-parts_text hook r =
-    with_part (with_part (with_part (with_part (with_part []
+-- a list, and behind it the reasons that apply, with how many packets each
+abbrev pub parts_behind : List ℕ → Hook → Reasons → List ℕ
+parts_behind text hook r =
+    with_part (with_part (with_part (with_part (with_part text
     r.missing (codes "without a frame"))
     r.other (other_kind hook))
     r.elsewhere (codes "to another address"))
     r.encrypted (codes "encrypted"))
     r.refused (codes "refused before any program")
+
+-- the list of these
+abbrev pub parts_text : Hook → Reasons → List ℕ
+parts_text hook r = parts_behind [] hook r
 
 -- the line of sums of a table without rows
 abbrev pub colon : List ℕ → List ℕ

@@ -1,12 +1,14 @@
 //! The verdicts that differ between two programs.
 
-ghost use Rattle.std.specs.Prelude.{◌≡◌, ◌≤◌, ◌++◌, IfOk, string_bytes, true};
+ghost use Rattle.std.specs.Prelude.{◌≡◌, ◌≤◌, [], ◌∷◌, ◌++◌, IfOk, codes, string_bytes, true};
 ghost use Rattle.capture.specs.Walks.{packets_in};
+ghost use Rattle.apd_eval.specs.Table.{column};
+ghost use Rattle.apd_eval.specs.Words.{verdict_of, words_of};
 ghost use Rattle.apd_eval.specs.Changes.{change_line, json_change, change_in, change_front, both_text, plain_changes, json_both, change_sums};
 
 use crate::again::Contrast;
 use crate::follow::Replay;
-use crate::table::station_text;
+use crate::table::{StationText, station_text};
 use crate::unjudged::{json_reasons, none_text, others_text, reasons_of};
 use bpf_regions::Hook;
 use std::alloc::{AllocError, Global};
@@ -24,27 +26,39 @@ struct Comparing<'a> {
 /// The heads of the columns.
 const HEADS: &str = "packet  station            verdict\n";
 
-fn append_line(alloc: Global, text: &mut String, change: &Contrast) -> Result<(), AllocError>
-    ensures ok { IfOk result
-        (λ _. string_bytes text.new ≡ string_bytes text.old ++ change_line change.now) }
+/// Appends the cells of a change.
+fn append_cells(
+    text: &mut String,
+    packet: &str,
+    station: &str,
+    change: &Contrast,
+) -> Result<(), AllocError>
+    ensures ok { IfOk result (λ _. string_bytes text.new ≡ string_bytes text.old
+        ++ (column 8 packet.now ++ (column 19 station.now
+        ++ (words_of (verdict_of change.now.in_force)
+        ++ (codes " -> " ++ (words_of (verdict_of change.now.tried) ++ 10 ∷ [])))))) }
 {
-    let packet = format!(in alloc; "{}", change.packet)?;
-    let station = station_text(alloc, &change.in_force.context)?;
-    let packet = packet.as_str();
-    let station = station.as_str();
     let former = change.in_force.meaning();
     let latter = change.tried.meaning();
     writeln!(text, "{packet:<8}{station:<19}{former} -> {latter}")?;
     Ok(())
 }
 
-fn append_json(alloc: Global, text: &mut String, change: &Contrast) -> Result<(), AllocError>
+fn append_line(alloc: Global, text: &mut String, change: &Contrast) -> Result<(), AllocError>
+    ensures ok { IfOk result
+        (λ _. string_bytes text.new ≡ string_bytes text.old ++ change_line change.now) }
+{
+    let packet = format!(in alloc; "{}", change.packet)?;
+    let station = station_text(alloc, &change.in_force.context)?;
+    append_cells(text, packet.as_str(), station.as_str(), change)
+}
+
+fn append_json(text: &mut String, change: &Contrast) -> Result<(), AllocError>
     ensures ok { IfOk result
         (λ _. string_bytes text.new ≡ string_bytes text.old ++ json_change change.now) }
 {
     let packet = change.packet;
-    let station = station_text(alloc, &change.in_force.context)?;
-    let station = station.as_str();
+    let station = StationText(&change.in_force.context);
     let former = change.in_force.meaning();
     let latter = change.tried.meaning();
     writeln!(
@@ -65,7 +79,7 @@ fn append_change(
         (λ _. string_bytes text.new ≡ string_bytes text.old ++ change_in json change.now) }
 {
     if json {
-        return append_json(alloc, text, change);
+        return append_json(text, change);
     }
     append_line(alloc, text, change)
 }

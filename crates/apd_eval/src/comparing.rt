@@ -1,6 +1,6 @@
 //! Two programs on a capture.
 
-ghost use Rattle.std.specs.Prelude.{IfOk, string_bytes};
+ghost use Rattle.std.specs.Prelude.{◌≡◌, IfOk, string_bytes};
 ghost use Rattle.bpf_helpers.specs.Hooked.{IsFitting};
 ghost use Rattle.capture.specs.Walks.{packets_in};
 ghost use Rattle.apd_eval.specs.Compared.{IsComparison};
@@ -68,6 +68,39 @@ impl<'a> TakesRows<'a> for Contrasts<'_> {
     }
 }
 
+impl Comparison {
+    ghost use Rattle.apd_eval.specs.Told.{AreContrasted};
+
+    /// Tells how the verdicts of a program differ from those of the program in force, on the queries of a capture.
+    fn contrasted(
+        alloc: Global,
+        in_force: Accepted,
+        tested: Tried,
+        replay: Replay<'_>,
+        untold: Changes,
+    ) -> Result<Changes, AllocError>
+        requires none { untold.judged ≡ 0 }
+        ensures contrasted { IfOk result (AreContrasted in_force replay.entry.draw replay.entry.link.now
+            (packets_in replay.entry.recording.bytes.now) tested untold) }
+    {
+        let Tried {
+            programs,
+            tables,
+            state,
+        } = tested;
+        let policy = Policy {
+            hook: in_force.hook(),
+            programs: &programs,
+            maps: tables.maps(),
+        };
+        let meter = Meter::new(state, Vec::new(alloc));
+        let mut contrasts = Contrasts::new(policy, meter, untold);
+        evaluate(alloc, in_force, replay, &mut contrasts)?;
+        let Contrasts { changes, .. } = contrasts;
+        Ok(changes)
+    }
+}
+
 /// The verdicts of a program that differ from those of the program in force, on the queries of its hook as a capture's
 /// frames come to a new access point of which it is the only program. Each has maps of its own, whose
 /// words are 0 at first, and draws the same first number; both read the clock and the stations of the query.
@@ -82,21 +115,9 @@ pub fn compare(
         (packets_in replay.entry.recording.bytes.now) json (string_bytes c.text) c.differs) }
 {
     let hook = in_force.hook();
-    let Tried {
-        programs,
-        tables,
-        state,
-    } = Tried::new(alloc, tried, replay.draw)?;
-    let policy = Policy {
-        hook,
-        programs: &programs,
-        maps: tables.maps(),
-    };
-    let meter = Meter::new(state, Vec::new(alloc));
     let untold = Changes::new(alloc, json)?;
-    let mut contrasts = Contrasts::new(policy, meter, untold);
-    evaluate(alloc, in_force, replay, &mut contrasts)?;
-    let Contrasts { changes, .. } = contrasts;
+    let tested = Tried::new(alloc, tried, replay.draw)?;
+    let changes = Comparison::contrasted(alloc, in_force, tested, replay, untold)?;
     let differs = 0 < changes.changed;
     let text = changes.finish(hook, replay)?;
     Ok(Comparison { text, differs })

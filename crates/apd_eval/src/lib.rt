@@ -35,4 +35,3 @@ pub use profiling::{ProfileForm, profile_text};
 pub use repeating::{Figures, Rounds, repeated_text};
 pub use row::Row;
 pub use ruling::Ruling;
-pub use tried::copied_shapes;

@@ -1,10 +1,13 @@
 //! How many steps a program makes at each of its instructions, on a capture's queries.
 
-ghost use Rattle.std.specs.Prelude.{◌≡◌, ◌++◌, IfOk, length, replicate, slice_get, slice_index, true, false};
+ghost use Rattle.std.specs.Prelude.{◌≡◌, [], ◌∷◌, ◌++◌, IfOk, length, replicate, slice_get, slice_index, true, false};
 ghost use Rattle.std.specs.String.{string_bytes};
+ghost use Rattle.bpf_machine.specs.Verified.{Verified};
 ghost use Rattle.capture.specs.Walks.{packets_in};
 ghost use Rattle.apd_eval.specs.declared.profiling.ProfileForm.TheVariants.{Table, Json};
-ghost use Rattle.apd_eval.specs.Profile.{profile_line, json_line, line_of, line_at, slot_lines, most_of, is_json, IsFormed, IsProfile};
+ghost use Rattle.bpf_line.specs.Spellings.{text_of};
+ghost use Rattle.apd_eval.specs.Table.{column};
+ghost use Rattle.apd_eval.specs.Profile.{profile_line, json_line, line_of, line_at, slot_lines, most_of, is_json, IsFormed, IsProfile, IsUncounted};
 ghost use Rattle.apd_eval.specs.Sums.{judged_of, totals_in, totals_text};
 
 use crate::follow::{Replay, follow};
@@ -24,7 +27,7 @@ use std::fmt::Write;
 const HEADS: &str = "steps     slot  instruction\n";
 
 /// How a profile is told.
-#[derive(Clone, Copy, Debug, PartialEq, Eq)]
+#[derive(Clone, Copy)]
 pub enum ProfileForm {
     /// A line for each instruction, and a line of sums.
     Table,
@@ -70,16 +73,22 @@ fn most_of(counts: &[u64]) -> u64
     most
 }
 
+/// Appends the cells of an instruction.
+fn append_cells(text: &mut String, steps: &str, slot: &str, insn: Insn) -> Result<(), AllocError>
+    ensures ok { IfOk result (λ _. string_bytes text.new ≡ string_bytes text.old
+        ++ (column 10 steps.now ++ (column 6 slot.now ++ (text_of insn ++ 10 ∷ [])))) }
+{
+    writeln!(text, "{steps:<10}{slot:<6}{}", InsnText(insn))?;
+    Ok(())
+}
+
 fn append_line(alloc: Global, text: &mut String, spot: Spot) -> Result<(), AllocError>
     ensures ok { IfOk result
         (λ _. string_bytes text.new ≡ string_bytes text.old ++ profile_line spot) }
 {
     let steps = format!(in alloc; "{}", spot.steps)?;
     let slot = format!(in alloc; "{}", spot.slot)?;
-    let steps = steps.as_str();
-    let slot = slot.as_str();
-    writeln!(text, "{steps:<10}{slot:<6}{}", InsnText(spot.insn))?;
-    Ok(())
+    append_cells(text, steps.as_str(), slot.as_str(), spot.insn)
 }
 
 fn append_json(text: &mut String, spot: Spot) -> Result<(), AllocError>
@@ -212,6 +221,44 @@ fn zeros(alloc: Global, count: usize) -> Result<Vec<u64>, AllocError>
     vec![in alloc; 0u64; count]
 }
 
+/// The profile of a program that is alone, with a count of 0 for each of its slots.
+fn profiled(
+    alloc: Global,
+    tested: Tried,
+    counts: Vec<u64>,
+    course: Course<'_>,
+    form: ProfileForm,
+) -> Result<String, AllocError>
+    requires fresh { (v : Verified) × IsUncounted v tested counts.items course }
+    ensures profile { (v : Verified) → IsUncounted v tested counts.items course.entry
+        → IfOk result (λ text. IsProfile v tested.state.draw course.entry.replay.link.now
+        (packets_in course.entry.replay.recording.bytes.now) form (string_bytes text)) }
+{
+    let Tried {
+        programs,
+        tables,
+        state,
+    } = tested;
+    let mut meter = Meter::new(state, counts);
+    let policy = Policy {
+        hook: course.hook,
+        programs: &programs,
+        maps: tables.maps(),
+    };
+    let mut tally = Tally::none();
+    follow(alloc, policy, &mut meter, course.replay, &mut tally)?;
+    match programs.program(course.hook) {
+        Some(accepted) => {
+            let profile = Profile {
+                program: accepted.program(),
+                counts: meter.counts(),
+            };
+            return formed(alloc, profile, tally, course, form);
+        }
+        None => unreachable!(),
+    }
+}
+
 /// How many steps a program makes at each of its slots, in the runs on the queries of its hook, as a capture's frames
 /// come to a new access point of which it is the only program. Its maps' words are 0 at first. Counts are mod 2^64.
 pub fn profile_text(
@@ -223,34 +270,12 @@ pub fn profile_text(
     ensures is { IfOk result (λ text. IsProfile accepted replay.entry.draw replay.entry.link.now
         (packets_in replay.entry.recording.bytes.now) form (string_bytes text)) }
 {
-    let hook = accepted.hook();
     let course = Course {
-        hook,
+        hook: accepted.hook(),
         budget: accepted.budget(),
         replay,
     };
     let counts = zeros(alloc, accepted.program().len())?;
-    let Tried {
-        programs,
-        tables,
-        state,
-    } = Tried::new(alloc, accepted, replay.draw)?;
-    let mut meter = Meter::new(state, counts);
-    let policy = Policy {
-        hook,
-        programs: &programs,
-        maps: tables.maps(),
-    };
-    let mut tally = Tally::none();
-    follow(alloc, policy, &mut meter, replay, &mut tally)?;
-    match programs.program(hook) {
-        Some(accepted) => {
-            let profile = Profile {
-                program: accepted.program(),
-                counts: meter.counts(),
-            };
-            return formed(alloc, profile, tally, course, form);
-        }
-        None => unreachable!(),
-    }
+    let tested = Tried::new(alloc, accepted, replay.draw)?;
+    profiled(alloc, tested, counts, course, form)
 }

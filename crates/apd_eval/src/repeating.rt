@@ -3,7 +3,7 @@
 ghost use Rattle.std.specs.Prelude.{◌≡◌, IfOk, IfSome, length, string_bytes};
 ghost use Rattle.bpf_helpers.specs.Hooked.{IsFitting};
 ghost use Rattle.capture.specs.Walks.{packets_in};
-ghost use Rattle.apd_eval.specs.Repeated.{AreFigures, IsTold, IsRepeated, figures_line, json_figures, figures_below};
+ghost use Rattle.apd_eval.specs.Repeated.{AreFigures, IsMeasured, IsTold, IsRepeated, figures_line, json_figures, figures_below};
 
 use crate::again::rule;
 use crate::evaluating::evaluate;
@@ -14,7 +14,6 @@ use crate::sums::Course;
 use crate::table::Table;
 use crate::tried::Policy;
 use ap_tables::ApTables;
-use bpf_helpers::tables_law;
 use bpf_machine::Accepted;
 use bpf_regions::{Frame, Hook};
 use program_judge::Programs;
@@ -99,6 +98,7 @@ fn nanos_of_a_run(
 
 /// The nanoseconds of a run in one round: all queries, one after another, on maps of zeros that only this
 /// round has.
+#[tactic(auto, using(bpf_helpers::proofs::Keeping::shapes_kept, bpf_helpers::proofs::Keeping::fitting_kept))]
 fn round<C: Clock>(
     alloc: Global,
     matter: Matter<'_>,
@@ -108,7 +108,6 @@ fn round<C: Clock>(
     let Ok(state) = tables.worker(alloc, 0, matter.draw) else {
         return Err(AllocError);
     };
-    tables_law();
     let mut meter = Meter::new(state, Vec::new(alloc));
     let policy = Policy {
         hook: matter.hook,
@@ -211,6 +210,21 @@ fn figures_text(
     figures_line(alloc, count, figures)
 }
 
+/// How long a run takes on the queries of so many rows, as a line; without rows, no text.
+fn measured_text<C: Clock>(
+    alloc: Global,
+    matter: Matter<'_>,
+    rows: usize,
+    rounds: &Rounds<'_, C>,
+    json: bool,
+) -> Result<String, AllocError>
+    ensures measured { IfOk result
+        (λ text. IsMeasured rows rounds.now.count json (string_bytes text)) }
+{
+    let figures = measure(alloc, matter, rounds)?;
+    figures_text(alloc, rows, rounds.count, figures, json)
+}
+
 /// The table of a program's verdicts, as `evaluation_text` returns it, and below it how long a run takes, by a clock. In
 /// each round the program judges the queries of all rows again, one after another, on maps and a draw word of its own
 /// that begin as those of the first judgement, so each run begins from the state from which the run of its row began, and
@@ -239,22 +253,15 @@ pub fn repeated_text<C: Clock>(
         frames: Vec::new(alloc),
     };
     let programs = evaluate(alloc, accepted, replay, &mut queries)?;
-    let Queries {
-        table,
-        rows,
-        frames,
-    } = queries;
-    let judged = table.tally.rows;
-    let mut text = table.finish(course)?;
     let matter = Matter {
         hook,
         programs: &programs,
         draw: replay.draw,
-        rows: rows.as_slice(),
-        frames: frames.as_slice(),
+        rows: queries.rows.as_slice(),
+        frames: queries.frames.as_slice(),
     };
-    let figures = measure(alloc, matter, rounds)?;
-    let line = figures_text(alloc, judged, rounds.count, figures, json)?;
-    text.push_str(line.as_str())?;
-    Ok(text)
+    let judged = queries.table.tally.rows;
+    let line = measured_text(alloc, matter, judged, rounds, json)?;
+    let Queries { table, .. } = queries;
+    table.finish_above(course, line.as_str())
 }

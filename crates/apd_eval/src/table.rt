@@ -1,9 +1,9 @@
 //! The table of a capture's verdicts.
 
-ghost use Rattle.std.specs.Prelude.{◌≡◌, ◌++◌, IfOk};
+ghost use Rattle.std.specs.Prelude.{◌≡◌, [], ◌∷◌, ◌++◌, IfOk, Some, decimal};
 ghost use Rattle.std.specs.String.{string_bytes};
 ghost use Rattle.apd_eval.specs.Sums.{judged_of, totals_in, totals_text};
-ghost use Rattle.apd_eval.specs.Table.{station_text, row_line, json_line, line_in, front};
+ghost use Rattle.apd_eval.specs.Table.{column, station_text, row_line, json_line, line_in, front};
 ghost use Rattle.apd_eval.specs.Tabled.{IsBegun};
 
 use crate::row::{Row, TakesRows};
@@ -11,17 +11,46 @@ use crate::sums::{Course, totals_text};
 use crate::tally::Tally;
 use bpf_regions::{Context, Frame};
 use std::alloc::{AllocError, Global};
+use std::fmt;
 use std::fmt::Write;
 
 /// The heads of the columns.
 const HEADS: &str = "packet  station            verdict       steps\n";
 
-/// The station's address, six pairs of hex digits.
+/// The station's address in a context, six pairs of hex digits.
+#[derive(Clone, Copy)]
+pub(crate) struct StationText<'a>(pub &'a Context);
+
+impl fmt::Display for StationText<'_> {
+    ghost output = { λ station. Some (station_text station.0.now) };
+
+    fn fmt<W: fmt::Write>(&self, f: &mut fmt::Formatter<W>) -> fmt::Result {
+        let [a, b, c, d, e, last, ..] = self.0.bytes();
+        write!(f, "{a:02x}:{b:02x}:{c:02x}:{d:02x}:{e:02x}:{last:02x}")
+    }
+}
+
+/// The same as a text that is padded.
 pub(crate) fn station_text(alloc: Global, context: &Context) -> Result<String, AllocError>
     ensures is { IfOk result (λ text. string_bytes text ≡ station_text context.now) }
 {
-    let [a, b, c, d, e, f, ..] = context.bytes();
-    format!(in alloc; "{a:02x}:{b:02x}:{c:02x}:{d:02x}:{e:02x}:{f:02x}")
+    format!(in alloc; "{}", StationText(context))
+}
+
+/// Appends the cells of a row.
+fn append_cells(
+    text: &mut String,
+    packet: &str,
+    station: &str,
+    verdict: &str,
+    steps: u32,
+) -> Result<(), AllocError>
+    ensures ok { IfOk result (λ _. string_bytes text.new ≡ string_bytes text.old
+        ++ (column 8 packet.now ++ (column 19 station.now ++ (column 14 verdict.now
+        ++ (decimal steps ++ 10 ∷ []))))) }
+{
+    writeln!(text, "{packet:<8}{station:<19}{verdict:<14}{steps}")?;
+    Ok(())
 }
 
 fn append_row(alloc: Global, text: &mut String, row: &Row) -> Result<(), AllocError>
@@ -31,21 +60,17 @@ fn append_row(alloc: Global, text: &mut String, row: &Row) -> Result<(), AllocEr
     let packet = format!(in alloc; "{}", row.packet)?;
     let station = station_text(alloc, &row.ruling.context)?;
     let verdict = format!(in alloc; "{}", row.ruling.meaning())?;
-    let steps = row.ruling.steps;
     let packet = packet.as_str();
     let station = station.as_str();
-    let verdict = verdict.as_str();
-    writeln!(text, "{packet:<8}{station:<19}{verdict:<14}{steps}")?;
-    Ok(())
+    append_cells(text, packet, station, verdict.as_str(), row.ruling.steps)
 }
 
-fn append_json(alloc: Global, text: &mut String, row: &Row) -> Result<(), AllocError>
+fn append_json(text: &mut String, row: &Row) -> Result<(), AllocError>
     ensures ok { IfOk result
         (λ _. string_bytes text.new ≡ string_bytes text.old ++ json_line row.now) }
 {
     let packet = row.packet;
-    let station = station_text(alloc, &row.ruling.context)?;
-    let station = station.as_str();
+    let station = StationText(&row.ruling.context);
     let verdict = row.ruling.meaning();
     let steps = row.ruling.steps;
     writeln!(
@@ -61,7 +86,7 @@ fn append_line(alloc: Global, text: &mut String, row: &Row, json: bool) -> Resul
         (λ _. string_bytes text.new ≡ string_bytes text.old ++ line_in json row.now) }
 {
     if json {
-        return append_json(alloc, text, row);
+        return append_json(text, row);
     }
     append_row(alloc, text, row)
 }
@@ -106,6 +131,16 @@ impl Table {
         let sums = totals_text(self.alloc, self.tally, course, self.json)?;
         let mut text = self.text;
         text.push_str(sums.as_str())?;
+        Ok(text)
+    }
+
+    /// The table with the sums of its rows, and a line below them.
+    pub(crate) fn finish_above(self, course: Course<'_>, line: &str) -> Result<String, AllocError>
+        ensures is { IfOk result (λ text. string_bytes text ≡ (string_bytes self.text
+            ++ totals_text (judged_of course.entry) (totals_in self.tally) self.json) ++ line.now) }
+    {
+        let mut text = self.finish(course)?;
+        text.push_str(line)?;
         Ok(text)
     }
 }

@@ -5,9 +5,9 @@ ghost use Rattle.bpf_helpers.specs.Hooked.{IsFitting, shapes_of};
 ghost use Rattle.program_judge.specs.Programs.{no_programs, replaced};
 
 use ap_tables::ApTables;
-use bpf_helpers::{MapTables, WorkerState, tables_law};
+use bpf_helpers::{MapTables, WorkerState};
 use bpf_machine::Accepted;
-use bpf_regions::{Hook, Shapes};
+use bpf_regions::Hook;
 use program_judge::Programs;
 use std::alloc::{AllocError, Global};
 
@@ -30,24 +30,13 @@ pub(crate) struct Tried {
     pub ghost fitting: { IsFitting tables.maps 0 state.seats },
 }
 
-/// A copy of these shapes.
-pub fn copied_shapes(alloc: Global, shapes: &Shapes) -> Result<Shapes, AllocError>
-    ensures is { IfOk result (λ copy. copy ≡ shapes.now) }
-{
-    shapes.whole();
-    match Shapes::new(Vec::from_slice(alloc, shapes.as_slice())?) {
-        Some(copy) => Ok(copy),
-        None => unreachable!(),
-    }
-}
-
 /// The program alone, at its hook.
-fn alone(alloc: Global, accepted: Accepted) -> Result<Programs, AllocError>
+fn alone(accepted: Accepted) -> Result<Programs, AllocError>
     ensures programs { IfOk result (λ programs.
         programs ≡ replaced accepted.hook (no_programs accepted.code.shapes) (Some accepted)) }
 {
     let hook = accepted.hook();
-    let shapes = copied_shapes(alloc, accepted.program().shapes())?;
+    let shapes = accepted.program().shapes().clone()?;
     let mut programs = Programs::none(shapes);
     programs.put(hook, Some(accepted));
     Ok(programs)
@@ -55,22 +44,20 @@ fn alone(alloc: Global, accepted: Accepted) -> Result<Programs, AllocError>
 
 impl Tried {
     /// The program alone, at its hook, with maps of zeros and this draw word.
+    #[tactic(auto, using(bpf_helpers::proofs::Keeping::shapes_kept, bpf_helpers::proofs::Keeping::fitting_kept))]
     pub(crate) fn new(alloc: Global, accepted: Accepted, draw: u64) -> Result<Tried, AllocError>
         ensures programs { IfOk result (λ tried. tried.programs
             ≡ replaced accepted.hook (no_programs accepted.code.shapes) (Some accepted)) }
         ensures draw { IfOk result (λ tried. tried.state.draw ≡ draw) }
     {
-        let programs = alone(alloc, accepted)?;
+        let programs = alone(accepted)?;
         let mut tables = ApTables::new(alloc, programs.shapes(), 1)?;
         match tables.worker(alloc, 0, draw) {
-            Ok(state) => {
-                tables_law();
-                Ok(Tried {
-                    programs,
-                    tables,
-                    state,
-                })
-            }
+            Ok(state) => Ok(Tried {
+                programs,
+                tables,
+                state,
+            }),
             Err(_) => Err(AllocError),
         }
     }

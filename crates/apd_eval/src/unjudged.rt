@@ -3,7 +3,7 @@
 ghost use Rattle.std.specs.Prelude.{◌≡◌, ◌≤◌, ◌-◌, ◌^◌, IfOk, slice_index_or, string_bytes, if◌then◌else◌};
 ghost use Rattle.capture.specs.Radiotap.{bytes_in};
 ghost use Rattle.capture.specs.Walks.{packets_in};
-ghost use Rattle.apd_eval.specs.Unjudged.{octet, is_judged, is_for, is_encrypted, reason_of, is_same, no_packets, with_packet, AreAtMost, other_kind, reasons_of, separator, with_part, parts_text, colon, none_line, others_line, lonely_line, none_text, json_reasons};
+ghost use Rattle.apd_eval.specs.Unjudged.{octet, is_judged, is_for, is_encrypted, reason_of, is_same, no_packets, with_packet, AreAtMost, other_kind, reasons_of, separator, with_part, parts_behind, parts_text, colon, none_line, others_line, lonely_line, none_text, json_reasons};
 
 use crate::follow::{Replay, is_received};
 use bpf_regions::Hook;
@@ -12,7 +12,7 @@ use std::alloc::{AllocError, Global};
 use std::fmt::Write;
 
 /// Why a packet wasn't judged.
-#[derive(Clone, Copy, Debug, PartialEq, Eq)]
+#[derive(Clone, Copy)]
 pub enum Reason {
     /// The capture has no frame of 1 to 2400 bytes.
     NoFrame,
@@ -207,16 +207,25 @@ fn append_part(text: &mut String, count: usize, what: &str) -> Result<(), AllocE
     Ok(())
 }
 
+/// Appends the reasons that apply, with how many packets each.
+fn append_parts(text: &mut String, hook: Hook, reasons: Reasons) -> Result<(), AllocError>
+    ensures ok { IfOk result
+        (λ _. string_bytes text.new ≡ parts_behind (string_bytes text.old) hook reasons) }
+{
+    append_part(text, reasons.missing, "without a frame")?;
+    append_part(text, reasons.other, other_kind(hook))?;
+    append_part(text, reasons.elsewhere, "to another address")?;
+    append_part(text, reasons.encrypted, "encrypted")?;
+    append_part(text, reasons.refused, "refused before any program")?;
+    Ok(())
+}
+
 /// The list of the reasons that apply, with how many packets each.
 fn parts_text(alloc: Global, hook: Hook, reasons: Reasons) -> Result<String, AllocError>
     ensures is { IfOk result (λ text. string_bytes text ≡ parts_text hook reasons) }
 {
     let mut text = String::new(alloc);
-    append_part(&mut text, reasons.missing, "without a frame")?;
-    append_part(&mut text, reasons.other, other_kind(hook))?;
-    append_part(&mut text, reasons.elsewhere, "to another address")?;
-    append_part(&mut text, reasons.encrypted, "encrypted")?;
-    append_part(&mut text, reasons.refused, "refused before any program")?;
+    append_parts(&mut text, hook, reasons)?;
     Ok(text)
 }
 

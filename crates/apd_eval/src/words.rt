@@ -11,7 +11,7 @@ use mac_types::Status;
 use std::fmt;
 
 /// What a verdict means to the link.
-#[derive(Clone, Copy, Debug, PartialEq, Eq)]
+#[derive(Clone, Copy, PartialEq, Eq)]
 pub(crate) enum Verdict {
     /// The station is associated.
     Admit,

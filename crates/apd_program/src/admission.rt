@@ -9,7 +9,6 @@ use crate::answer::{Answer, refused, undecoded};
 use crate::explaining::Reason;
 use crate::fault::ProgramFault;
 use crate::verifying::admit;
-use apd_eval::copied_shapes;
 use apd_words::Terms;
 use bpf_decode::{Program, decode};
 use bpf_machine::Accepted;
@@ -61,7 +60,7 @@ pub(crate) fn admit_code(
         (IsAdmission (within terms.states terms.work) terms.hook code.now shapes.now) }
     ensures memory { IfErr result (λ e. e ≡ ProgramFault.NoMemory) }
 {
-    let shapes = copied_shapes(alloc, shapes)?;
+    let shapes = shapes.clone()?;
     match decode(alloc, code, shapes) {
         Ok(program) => admit_program(alloc, program, code, terms, reason),
         Err(fault) => {

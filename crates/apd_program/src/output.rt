@@ -15,7 +15,7 @@ use std::alloc::Global;
 use std::io::{ErrorKind, Write};
 
 /// Why an answer wasn't delivered whole.
-#[derive(Clone, Copy, Debug)]
+#[derive(Clone, Copy)]
 pub(crate) enum Undelivered {
     NoMemory,
     /// Standard output took no more.

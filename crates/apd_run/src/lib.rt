@@ -11,4 +11,4 @@ mod progress;
 mod runner;
 
 pub use progress::{Progress, Watcher};
-pub use runner::{Gate, Limits, OpenGate, RunWords, StateLimit, Streams, Supplies, live, run};
+pub use runner::{Gate, Limits, OpenGate, RunWords, StateLimit, Streams, Surroundings, live, run};

@@ -7,5 +7,5 @@ mod command;
 mod fault;
 mod setup;
 
-pub use crate::access::{Gate, Limits, OpenGate, StateLimit, Supplies};
-pub use command::{RunWords, Streams, live, run};
+pub use crate::access::{Gate, Limits, OpenGate, StateLimit};
+pub use command::{RunWords, Streams, Surroundings, live, run};

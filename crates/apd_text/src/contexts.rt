@@ -12,7 +12,7 @@ use hex::FromHex;
 use std::fmt;
 
 /// Why there is no context. It is displayed in words; no contract promises anything of them.
-#[derive(Clone, Copy, Debug)]
+#[derive(Clone, Copy)]
 pub enum ContextFault<'a> {
     /// A word isn't KEY=VALUE.
     NoPair(&'a str),
@@ -42,7 +42,7 @@ struct Field {
     last: u16,
 }
 
-const COMMON: [Field; 3] = [
+static COMMON: [Field; 3] = [
     Field {
         key: "state",
         place: 7,
@@ -66,7 +66,7 @@ const COMMON: [Field; 3] = [
     },
 ];
 
-const OF_ASSOCIATION: [Field; 3] = [
+static OF_ASSOCIATION: [Field; 3] = [
     Field {
         key: "capability",
         place: 12,
@@ -90,7 +90,7 @@ const OF_ASSOCIATION: [Field; 3] = [
     },
 ];
 
-const OF_ADDBA: [Field; 3] = [
+static OF_ADDBA: [Field; 3] = [
     Field {
         key: "size",
         place: 12,
@@ -114,7 +114,7 @@ const OF_ADDBA: [Field; 3] = [
     },
 ];
 
-const OF_DATA: [Field; 3] = [
+static OF_DATA: [Field; 3] = [
     Field {
         key: "number",
         place: 12,
@@ -383,17 +383,37 @@ fn field_in(fields: &[Field], key: &str) -> Option<Field> {
     None
 }
 
+/// The keys of a hook's context besides the common ones.
+#[derive(Clone, Copy)]
+struct Keys(Hook);
+
+impl fmt::Display for Keys {
+    fn fmt<W: fmt::Write>(&self, f: &mut fmt::Formatter<W>) -> fmt::Result {
+        for field in fields_of(self.0) {
+            write!(f, ", {}", field.key)?;
+        }
+        Ok(())
+    }
+}
+
+/// What is said of a frame that the hook doesn't judge.
+fn other_frame(hook: Hook) -> &'static str {
+    match hook {
+        Hook::Association => "the frame is no association request",
+        Hook::Addba => "the frame is no request for an agreement (ADDBA)",
+        Hook::Data => "the frame is no data",
+    }
+}
+
 impl fmt::Display for ContextFault<'_> {
     fn fmt<W: fmt::Write>(&self, f: &mut fmt::Formatter<W>) -> fmt::Result {
         match *self {
             ContextFault::NoPair(word) => write!(f, "`{word}` is no KEY=VALUE"),
-            ContextFault::UnknownKey { key, hook } => {
-                write!(f, "unknown key `{key}`; there are station, state, aid, tid")?;
-                for field in fields_of(hook) {
-                    write!(f, ", {}", field.key)?;
-                }
-                Ok(())
-            }
+            ContextFault::UnknownKey { key, hook } => write!(
+                f,
+                "unknown key `{key}`; there are station, state, aid, tid{}",
+                Keys(hook)
+            ),
             ContextFault::NoAddress => f.write_str("`station` is an address as 02:00:00:00:00:0a"),
             ContextFault::NoNumber { key: "tid", .. } => {
                 f.write_str("`tid` is 0 to 7, or 255 where there is none")
@@ -401,13 +421,7 @@ impl fmt::Display for ContextFault<'_> {
             ContextFault::NoNumber { key, first, last } => {
                 write!(f, "`{key}` is {first} to {last}")
             }
-            ContextFault::OtherFrame(Hook::Association) => {
-                f.write_str("the frame is no association request")
-            }
-            ContextFault::OtherFrame(Hook::Addba) => {
-                f.write_str("the frame is no request for an agreement (ADDBA)")
-            }
-            ContextFault::OtherFrame(Hook::Data) => f.write_str("the frame is no data"),
+            ContextFault::OtherFrame(hook) => f.write_str(other_frame(hook)),
         }
     }
 }

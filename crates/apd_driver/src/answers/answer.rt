@@ -7,14 +7,14 @@ use bpf_regions::{Hook, Shape};
 use mac_types::{Address, SequenceNumber, Tid};
 
 /// A known station, and its association identifier if it is associated.
-#[derive(Clone, Copy, PartialEq, Eq)]
+#[derive(Clone, Copy)]
 pub struct StationRow {
     pub station: Address,
     pub aid: Option<u16>,
 }
 
 /// An agreement in force.
-#[derive(Clone, Copy, PartialEq, Eq)]
+#[derive(Clone, Copy)]
 pub struct AgreementRow {
     pub station: Address,
     pub tid: Tid,

@@ -4,14 +4,14 @@ ghost use Rattle.std.specs.Prelude.{◌≡◌, ◌++◌, IfOk, OnOk, codes, deci
 ghost use Rattle.std.specs.Io.KnownBytes.{Appends};
 ghost use Rattle.std.specs.List.{flat_map};
 ghost use Rattle.apd_files.specs.Beginning.{AppendsBeginning};
-ghost use Rattle.apd_driver.specs.Answers.{answer_text, agreement_words, counter_words, entry_words, numbers_text, program_text, says_text, shape_words, station_words};
+ghost use Rattle.apd_driver.specs.Answers.{answer_text, agreement_words, entry_words, numbers_text, program_text, says_text, shape_words, station_words};
 ghost use Rattle.apd_driver.specs.Lines.{line_of};
-ghost use Rattle.apd_driver.specs.Words.{then};
+ghost use Rattle.apd_driver.specs.Words.{then, counter_words};
 
 use crate::answers::answer::{AgreementRow, Answer, EntryRow, ProgramRow, StationRow};
 use crate::answers::rows::ShapeWords;
 use crate::capturing::Printing;
-use crate::reports::PrintFault;
+use crate::reports::{CounterWords, PrintFault};
 use ap_books::Totals;
 use bpf_regions::Shape;
 use std::alloc::{AllocError, Global};
@@ -140,18 +140,48 @@ fn append_counters(text: &mut String, line: u64, totals: &Totals) -> Result<(), 
     ensures ok { IfOk result (λ _. string_bytes text.new ≡ string_bytes text.old
         ++ line_of line (counter_words totals.now)) }
 {
-    let Totals {
-        events,
-        sent,
-        up,
-        dropped,
-        notes,
-    } = *totals;
-    writeln!(
-        text,
-        "{line} events {events} sent {sent} up {up} dropped {dropped} notes {notes}"
-    )?;
+    writeln!(text, "{line} {}", CounterWords(*totals))?;
     Ok(())
+}
+
+/// Appends the lines of an answer.
+fn append_answer(text: &mut String, line: u64, answer: &Answer) -> Result<(), AllocError>
+    ensures ok { IfOk result (λ _. string_bytes text.new ≡ string_bytes text.old
+        ++ answer_text line answer.now) }
+{
+    match answer {
+        Answer::Usages(usages) => {
+            append_usages(text, line, usages.as_slice())?;
+            append_end(text, line, usages.len())?;
+            Ok(())
+        }
+        Answer::Stations(rows) => {
+            append_stations(text, line, rows.as_slice())?;
+            append_end(text, line, rows.len())?;
+            Ok(())
+        }
+        Answer::Agreements(rows) => {
+            append_agreements(text, line, rows.as_slice())?;
+            append_end(text, line, rows.len())?;
+            Ok(())
+        }
+        Answer::Programs(rows) => {
+            append_programs(text, line, rows.as_slice())?;
+            append_end(text, line, rows.len())?;
+            Ok(())
+        }
+        Answer::Counters(totals) => append_counters(text, line, totals),
+        Answer::Dump {
+            map,
+            shape,
+            entries,
+        } => {
+            append_map(text, line, *map, *shape)?;
+            append_entries(text, line, entries.as_slice())?;
+            append_end(text, line, entries.len())?;
+            Ok(())
+        }
+    }
 }
 
 /// The lines of an answer.
@@ -159,42 +189,8 @@ fn answer_text(alloc: Global, line: u64, answer: &Answer) -> Result<String, Allo
     ensures is { IfOk result (λ text. string_bytes text ≡ answer_text line answer.now) }
 {
     let mut text = String::new(alloc);
-    match answer {
-        Answer::Usages(usages) => {
-            append_usages(&mut text, line, usages.as_slice())?;
-            append_end(&mut text, line, usages.len())?;
-            Ok(text)
-        }
-        Answer::Stations(rows) => {
-            append_stations(&mut text, line, rows.as_slice())?;
-            append_end(&mut text, line, rows.len())?;
-            Ok(text)
-        }
-        Answer::Agreements(rows) => {
-            append_agreements(&mut text, line, rows.as_slice())?;
-            append_end(&mut text, line, rows.len())?;
-            Ok(text)
-        }
-        Answer::Programs(rows) => {
-            append_programs(&mut text, line, rows.as_slice())?;
-            append_end(&mut text, line, rows.len())?;
-            Ok(text)
-        }
-        Answer::Counters(totals) => {
-            append_counters(&mut text, line, totals)?;
-            Ok(text)
-        }
-        Answer::Dump {
-            map,
-            shape,
-            entries,
-        } => {
-            append_map(&mut text, line, *map, *shape)?;
-            append_entries(&mut text, line, entries.as_slice())?;
-            append_end(&mut text, line, entries.len())?;
-            Ok(text)
-        }
-    }
+    append_answer(&mut text, line, answer)?;
+    Ok(text)
 }
 
 /// Prints the answer to the question of a line, or a prefix of it if a write or an allocation fails.

@@ -19,7 +19,7 @@ use std::alloc::{AllocError, Global};
 use std::io::{ErrorKind, Write};
 
 /// Why a capture isn't whole.
-#[derive(Clone, Copy, Debug, PartialEq, Eq)]
+#[derive(Clone, Copy)]
 pub enum Unrecorded {
     /// A write failed, or the file wasn't made.
     Unwritten(ErrorKind),

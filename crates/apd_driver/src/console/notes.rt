@@ -7,6 +7,7 @@ use apd_files::{shown, write_whole};
 use apd_script::{Command, MapWord, Numbered};
 use bpf_regions::{Hook, Shape, Shapes, WordWidth};
 use std::alloc::{AllocError, Global};
+use std::fmt;
 use std::io::Write;
 
 /// The name of a script as messages show it, the maps of its run, which messages to write, and the lines whose programs
@@ -27,6 +28,23 @@ fn answer_to(line: u64, reports: &[Report]) -> (Option<&Told>, &[Report]) {
     match reports.split_first() {
         Some((first, after)) if first.line == line => (Some(&first.told), after),
         _ => (None, reports),
+    }
+}
+
+/// A script, or a line of it.
+#[derive(Clone, Copy)]
+struct Place<'a> {
+    script: &'a str,
+    line: Option<u64>,
+}
+
+impl fmt::Display for Place<'_> {
+    fn fmt<W: fmt::Write>(&self, f: &mut fmt::Formatter<W>) -> fmt::Result {
+        let Place { script, line } = *self;
+        match line {
+            Some(line) => write!(f, "{script}:{line}"),
+            None => f.write_str(script),
+        }
     }
 }
 
@@ -131,7 +149,7 @@ impl Notes {
             ..load
         };
         if let Some(message) = message_of(load, told, self.verbose) {
-            self.say(err, line, message);
+            self.say(err, Some(line), message);
         }
     }
 
@@ -146,13 +164,17 @@ impl Notes {
                 value,
                 kept: value & FOUR_BYTES,
             };
-            self.say(err, line, message);
+            self.say(err, Some(line), message);
         }
     }
 
-    fn say<E: Write>(&self, err: &mut E, line: u64, message: Message<'_>) {
-        let script = self.script.as_str();
-        if let Ok(text) = format!(in self.alloc; "apd: {script}:{line}: {message}\n") {
+    /// Writes a message about a line, or about the whole script.
+    fn say<E: Write>(&self, err: &mut E, line: Option<u64>, message: Message<'_>) {
+        let place = Place {
+            script: self.script.as_str(),
+            line,
+        };
+        if let Ok(text) = format!(in self.alloc; "apd: {place}: {message}\n") {
             let _ = write_whole(err, text.as_bytes());
         }
     }
@@ -164,15 +186,8 @@ impl Notes {
         }
         for hook in [Hook::Association, Hook::Addba, Hook::Data] {
             if self.programs.at(hook).is_none() {
-                self.say_at_end(err, Message::NoProgram(hook));
+                self.say(err, None, Message::NoProgram(hook));
             }
-        }
-    }
-
-    fn say_at_end<E: Write>(&self, err: &mut E, message: Message<'_>) {
-        let script = self.script.as_str();
-        if let Ok(text) = format!(in self.alloc; "apd: {script}: {message}\n") {
-            let _ = write_whole(err, text.as_bytes());
         }
     }
 }

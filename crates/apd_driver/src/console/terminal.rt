@@ -95,7 +95,7 @@ impl<'a, O: Printing + Drop, E: Write> Printing for Terminal<'a, O, E> {
         match self.out.record(commands, reports) {
             Ok(()) => Ok(()),
             Err(why) => {
-                self.reader_left = why == Unrecorded::Unwritten(ErrorKind::BrokenPipe);
+                self.reader_left = matches!(why, Unrecorded::Unwritten(ErrorKind::BrokenPipe));
                 Err(why)
             }
         }

@@ -1,17 +1,19 @@
 //! Reports as text.
 
-ghost use Rattle.std.specs.Prelude.{◌≡◌, ◌++◌, IfOk, string_bytes};
-ghost use Rattle.apd_driver.specs.Words.{out_words};
+ghost use Rattle.std.specs.Prelude.{◌≡◌, ◌++◌, IfOk, Some, codes, decimal, string_bytes};
+ghost use Rattle.mac_types.specs.Texts.{address_text};
+ghost use Rattle.apd_driver.specs.Words.{then, out_words};
 ghost use Rattle.apd_driver.specs.Colours.{beginning, colour_in, ending};
-ghost use Rattle.apd_driver.specs.Lines.{drop_text, json_text, line_of, notice_line, notice_text, noticed_out, noticed_outs, noticed_text, outs_text, report_text, styled_text, told_text, totals_text};
+ghost use Rattle.apd_driver.specs.Lines.{drop_text, json_text, line_of, notice_line, notice_text, noticed_out, noticed_outs, noticed_text, outs_text, report_text, styled_text, told_text, told_words, totals_text};
 
 use crate::reports::json::{append_drop_json, append_loaded_json, append_outs_json};
 use crate::reports::notice::{Dropped, Notice, notice_of};
 use crate::reports::report::{Form, Report, Style, Told};
-use crate::reports::words::{TidWord, bytes_word, octets_word};
+use crate::reports::words::{CounterWords, TidWord, bytes_word, octets_word};
 use ap_books::Totals;
 use ap_model::{Out, Up};
 use std::alloc::{AllocError, Global};
+use std::fmt;
 use std::fmt::Write;
 
 fn append_send(alloc: Global, text: &mut String, line: u64, frame: &[u8]) -> Result<(), AllocError>
@@ -23,16 +25,27 @@ fn append_send(alloc: Global, text: &mut String, line: u64, frame: &[u8]) -> Res
     Ok(())
 }
 
+/// Appends how the line of data that is passed up begins: whom it comes from, and whom it goes to.
+fn append_addresses(alloc: Global, text: &mut String, line: u64, up: &Up) -> Result<(), AllocError>
+    ensures ok { IfOk result (λ _. string_bytes text.new ≡ string_bytes text.old
+        ++ then (decimal line) (then (codes "up")
+        (then (address_text up.now.source) (address_text up.now.destination)))) }
+{
+    let source = octets_word(alloc, up.source.octets().as_slice())?;
+    let destination = octets_word(alloc, up.destination.octets().as_slice())?;
+    write!(text, "{line} up {source} {destination}")?;
+    Ok(())
+}
+
 fn append_up(alloc: Global, text: &mut String, line: u64, up: &Up) -> Result<(), AllocError>
     ensures ok { IfOk result (λ _. string_bytes text.new ≡ string_bytes text.old
         ++ line_of line (out_words (Out.Up up.now))) }
 {
-    let source = octets_word(alloc, up.source.octets().as_slice())?;
-    let destination = octets_word(alloc, up.destination.octets().as_slice())?;
+    append_addresses(alloc, text, line, up)?;
     let body = bytes_word(alloc, up.body.bytes())?;
     writeln!(
         text,
-        "{line} up {source} {destination} {} {} {} {body}",
+        " {} {} {} {body}",
         TidWord(up.tid),
         up.number,
         up.mark
@@ -131,23 +144,47 @@ fn append_drop(text: &mut String, line: u64, dropped: Option<Dropped>) -> Result
     Ok(())
 }
 
+/// What became of a line without outputs, in words.
+#[derive(Clone, Copy)]
+struct ToldWords<'a>(&'a Told);
+
+impl fmt::Display for ToldWords<'_> {
+    ghost output = { λ words. Some (told_words words.0.now) };
+
+    fn fmt<W: fmt::Write>(&self, f: &mut fmt::Formatter<W>) -> fmt::Result {
+        match self.0 {
+            Told::Handled { .. } => Ok(()),
+            Told::Memory => f.write_str("memory"),
+            Told::Loaded { budget, .. } => write!(f, "loaded {budget}"),
+            Told::Fault(fault) => write!(f, "{fault}"),
+            Told::Refused { fault, slot } => write!(f, "refused {fault} at {slot}"),
+            Told::Certificate { fault } => write!(f, "certificate {fault}"),
+            Told::Unreadable(_) => f.write_str("unreadable"),
+            Told::Word { value } => write!(f, "word {value}"),
+            Told::Malformed { why } => write!(f, "error {why}"),
+        }
+    }
+}
+
 /// Appends what became of a line, as lines.
 fn append_told(alloc: Global, text: &mut String, line: u64, told: &Told) -> Result<(), AllocError>
     ensures ok { IfOk result (λ _. string_bytes text.new ≡ string_bytes text.old
         ++ told_text line told.now) }
 {
     match told {
-        Told::Handled { outs, .. } => append_outs(alloc, text, line, outs.as_slice())?,
-        Told::Memory => writeln!(text, "{line} memory")?,
-        Told::Loaded { budget, .. } => writeln!(text, "{line} loaded {budget}")?,
-        Told::Fault(fault) => writeln!(text, "{line} {fault}")?,
-        Told::Refused { fault, slot } => writeln!(text, "{line} refused {fault} at {slot}")?,
-        Told::Certificate { fault } => writeln!(text, "{line} certificate {fault}")?,
-        Told::Unreadable(_) => writeln!(text, "{line} unreadable")?,
-        Told::Word { value } => writeln!(text, "{line} word {value}")?,
-        Told::Malformed { why } => writeln!(text, "{line} error {why}")?,
+        Told::Handled { outs, .. } => append_outs(alloc, text, line, outs.as_slice()),
+        Told::Memory
+        | Told::Loaded { .. }
+        | Told::Fault(_)
+        | Told::Refused { .. }
+        | Told::Certificate { .. }
+        | Told::Unreadable(_)
+        | Told::Word { .. }
+        | Told::Malformed { .. } => {
+            writeln!(text, "{line} {}", ToldWords(told))?;
+            Ok(())
+        }
     }
-    Ok(())
 }
 
 /// Appends what became of a line, with what its frames mean.
@@ -287,12 +324,5 @@ pub(crate) fn append_report(
 pub(crate) fn totals_line(alloc: Global, totals: &Totals) -> Result<String, AllocError>
     ensures is { IfOk result (λ text. string_bytes text ≡ totals_text totals.now) }
 {
-    let Totals {
-        events,
-        sent,
-        up,
-        dropped,
-        notes,
-    } = *totals;
-    format!(in alloc; "total events {events} sent {sent} up {up} dropped {dropped} notes {notes}\n")
+    format!(in alloc; "total {}\n", CounterWords(*totals))
 }

@@ -8,7 +8,7 @@ use mac_types::Address;
 use std::fmt;
 
 /// What a frame means to its receiver.
-#[derive(Clone, Copy, PartialEq, Eq)]
+#[derive(Clone, Copy)]
 pub enum Meaning {
     /// It is authenticated.
     Authenticated,
@@ -25,7 +25,7 @@ pub enum Meaning {
 }
 
 /// What a frame means to a station.
-#[derive(Clone, Copy, PartialEq, Eq)]
+#[derive(Clone, Copy)]
 pub struct Notice {
     pub station: Address,
     pub meaning: Meaning,

@@ -14,7 +14,7 @@ use apd_files::{FileFault, Unwritten};
 use std::alloc::{AllocError, Global};
 
 /// Why a text wasn't written whole.
-#[derive(Clone, Copy, PartialEq, Eq)]
+#[derive(Clone, Copy)]
 pub enum PrintFault {
     /// A write failed.
     Unwritten,

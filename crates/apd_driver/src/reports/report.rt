@@ -61,7 +61,7 @@ pub struct Report {
 }
 
 /// The lines that are printed of reports.
-#[derive(Clone, Copy, PartialEq, Eq)]
+#[derive(Clone, Copy)]
 pub enum Style {
     /// A line for each output: frames to send as hex digits.
     Lines,
@@ -72,7 +72,7 @@ pub enum Style {
 }
 
 /// How reports are printed: in which style, and whether what went wrong is red, and what is in force green.
-#[derive(Clone, Copy, PartialEq, Eq)]
+#[derive(Clone, Copy)]
 pub struct Form {
     pub style: Style,
     pub colours: bool,

@@ -2,8 +2,9 @@
 
 ghost use Rattle.std.specs.Prelude.{◌≡◌, IfOk, Some, string_bytes};
 ghost use Rattle.mac_types.specs.Texts.{address_text};
-ghost use Rattle.apd_driver.specs.Words.{tid_word, bytes_word};
+ghost use Rattle.apd_driver.specs.Words.{tid_word, bytes_word, counter_words};
 
+use ap_books::Totals;
 use mac_types::Tid;
 use std::alloc::{AllocError, Global};
 use std::fmt;
@@ -38,4 +39,26 @@ pub(crate) fn bytes_word(alloc: Global, bytes: &[u8]) -> Result<String, AllocErr
         return String::from_str(alloc, "-");
     }
     hex::encode(alloc, bytes)
+}
+
+/// What was counted, in words.
+#[derive(Clone, Copy)]
+pub(crate) struct CounterWords(pub Totals);
+
+impl fmt::Display for CounterWords {
+    ghost output = { λ counters. Some (counter_words counters.0) };
+
+    fn fmt<W: fmt::Write>(&self, f: &mut fmt::Formatter<W>) -> fmt::Result {
+        let Totals {
+            events,
+            sent,
+            up,
+            dropped,
+            notes,
+        } = self.0;
+        write!(
+            f,
+            "events {events} sent {sent} up {up} dropped {dropped} notes {notes}"
+        )
+    }
 }

@@ -45,19 +45,23 @@ pub struct Supplies<'a, F, G: Drop> {
     pub gate: G,
 }
 
-/// What an access point is made from, and a copy of its maps' shapes.
+/// What a run begins with: what its access point is made from, a copy of its maps' shapes, and its lines.
 #[derive(Drop)]
-pub struct Opening {
+pub struct Opening<S: Drop> {
     pub settings: Settings,
     pub shapes: Shapes,
     pub new: NewShards,
+    pub lines: S,
 }
 
-/// The tokens of an access point, a journal for the batches of its workers, and the programs in force there.
-struct Equipment<B: Ledgers + Journals> {
+/// An access point whose tokens were given out: the tokens, a journal for the batches of its workers, the programs in force
+/// there, and what a run uses besides.
+struct Equipment<'a, 'b, B: Ledgers + Journals, F, G: Drop> {
+    ap: &'a LiveAp<B>,
     hands: Hands<B>,
     batches: ap_journal::Opened<Batch>,
     loads: Loads,
+    supplies: Supplies<'b, F, G>,
 }
 
 /// The end of a run for which an allocation failed before it began.
@@ -165,9 +169,7 @@ where
 fn run_with<B, L, F, G, R, S, P>(
     rt: &R,
     alloc: Global,
-    ap: &LiveAp<B>,
-    equipment: Equipment<B>,
-    supplies: Supplies<'_, F, G>,
+    equipment: Equipment<'_, '_, B, F, G>,
     lines: S,
     writer: P,
 ) -> (P, u8)
@@ -180,33 +182,35 @@ where
     S: Lines + Drop,
     P: Console + Drop,
     requires hands { let hands = equipment.hands in
-        AreHands ap.now hands.kept.token.value hands.workers.items hands.kept.hoard.value hands.kept.parts }
+        AreHands equipment.ap.now hands.kept.token.value hands.workers.items hands.kept.hoard.value hands.kept.parts }
     requires pages { HasPages equipment.hands.kept.parts equipment.hands.kept.pages.value }
     requires unused { AreUnused equipment.hands.kept.pages.value }
-    requires rest { AreRest ap.now equipment.hands.kept.passes }
+    requires rest { AreRest equipment.ap.now equipment.hands.kept.passes }
     requires shares { B.shares ≡ parts_in_all }
-    requires some { 0 < length ap.now.queues }
-    requires each { length ap.now.queues ≡ vec_len equipment.hands.workers }
-    requires named { ap.now ≡ L.ap }
+    requires some { 0 < length equipment.ap.now.queues }
+    requires each { length equipment.ap.now.queues ≡ vec_len equipment.hands.workers }
+    requires named { equipment.ap.now ≡ L.ap }
     requires batches { equipment.batches ≡ L.batches }
     requires loads { equipment.loads.list ≡ L.ap.list.list }
     requires no_loads { equipment.loads.loads ≡ [] }
-    ensures runs { RunsNew (F.held supplies.entry.files.now) supplies.entry.limits
-        (plan_at B.config ap.now) (P.manner writer) (S.script lines) (P.contents writer) (P.contents result.0) result.1 }
+    ensures runs { RunsNew (F.held equipment.entry.supplies.files.now) equipment.entry.supplies.limits
+        (plan_at B.config equipment.entry.ap.now) (P.manner writer) (S.script lines) (P.contents writer) (P.contents result.0) result.1 }
     ensures keeps { result.1 < 2 → KeepsWhole (P.manner writer).form (S.script lines)
         (P.contents writer) (P.contents result.0)
         (P.recorded writer) (P.recorded result.0) }
 {
+    let Equipment {
+        ap,
+        hands,
+        batches,
+        loads,
+        supplies,
+    } = equipment;
     let Supplies {
         files,
         limits,
         gate,
     } = supplies;
-    let Equipment {
-        hands,
-        batches,
-        loads,
-    } = equipment;
     let Hands { kept, workers } = hands;
     let register = Register::new(batches);
     let mut loads = loads;
@@ -231,9 +235,8 @@ where
 pub(crate) fn run_live<B, F, G, R, S, P>(
     rt: &R,
     alloc: Global,
-    opening: Opening,
+    opening: Opening<S>,
     supplies: Supplies<'_, F, G>,
-    lines: S,
     writer: P,
 ) -> (P, u8)
 where
@@ -250,9 +253,9 @@ where
     requires config { opening.settings.link ≡ B.config }
     requires shares { B.shares ≡ parts_in_all }
     ensures runs { RunsNew (F.held supplies.entry.files.now) supplies.entry.limits
-        (record { link = opening.settings.link; maps = opening.settings.shapes }) (P.manner writer) (S.script lines)
+        (record { link = opening.settings.link; maps = opening.settings.shapes }) (P.manner writer) (S.script opening.lines)
         (P.contents writer) (P.contents result.0) result.1 }
-    ensures keeps { result.1 < 2 → KeepsWhole (P.manner writer).form (S.script lines)
+    ensures keeps { result.1 < 2 → KeepsWhole (P.manner writer).form (S.script opening.lines)
         (P.contents writer) (P.contents result.0)
         (P.recorded writer) (P.recorded result.0) }
 {
@@ -260,6 +263,7 @@ where
         settings,
         shapes,
         new,
+        lines,
     } = opening;
     let workers = settings.workers as usize;
     let Ok(opened) = LiveAp::<B>::open(rt, alloc, settings, new) else {
@@ -276,9 +280,11 @@ where
         return without_memory(writer);
     };
     let equipment = Equipment {
+        ap: &ap,
         hands,
         batches: ap_journal::Opened::new(),
         loads,
+        supplies,
     };
-    run_with::<B, Brand, F, G, R, S, P>(rt, alloc, &ap, equipment, supplies, lines, writer)
+    run_with::<B, Brand, F, G, R, S, P>(rt, alloc, equipment, lines, writer)
 }

@@ -7,7 +7,7 @@ ghost use Rattle.apd_driver.specs.Shows.{IsBroken};
 ghost use Rattle.apd_run.specs.Captured.{KeepsCapture, KeepsScript};
 ghost use Rattle.apd_run.specs.NewRuns.{IsConfigurationAt, RunsInput, RunsNew, RunsScript, plan_of};
 
-use crate::access::{NewShards, Opening, Supplies, run_live};
+use crate::access::{Limits, NewShards, Opening, Supplies, run_live};
 use crate::progress::Watcher;
 use crate::runner::fault::{
     Origin, RunFault, complain, of_script, say_if_group, say_why, uncaptured, unreadable,
@@ -39,6 +39,16 @@ pub struct RunWords<'a> {
     pub capture: &'a str,
 }
 
+/// What a run stands in: the files of its programs, what the verifier or a check may do for each of them, the gate that is
+/// told of each event, and where texts of faults go.
+#[derive(Drop)]
+pub struct Surroundings<'a, F, G: Drop, E> {
+    pub files: &'a mut F,
+    pub limits: Limits,
+    pub gate: G,
+    pub err: &'a mut E,
+}
+
 /// Where the lines of `apd live` come from, with the time that passes, and where its answers go.
 #[derive(Drop)]
 pub struct Streams<S: Drop, P: Drop> {
@@ -50,9 +60,11 @@ pub struct Streams<S: Drop, P: Drop> {
     pub shown: bool,
 }
 
-/// The configuration of an access point, the lines that it does, and where they come from.
+/// What a run does: what it is asked, the configuration of its access point, the lines that this does, and where they come
+/// from.
 #[derive(Drop)]
-struct Task<L: Drop> {
+struct Task<'a, L: Drop> {
+    words: RunWords<'a>,
     configuration: Configuration,
     lines: L,
     origin: Origin,
@@ -76,8 +88,7 @@ fn last_line(commands: &[Numbered<'_>]) -> u64 {
 fn run_task<R, F, G, L, P>(
     rt: &R,
     alloc: Global,
-    task: Task<L>,
-    workers: u8,
+    task: Task<'_, L>,
     supplies: Supplies<'_, F, G>,
     writer: P,
 ) -> (P, u8)
@@ -87,16 +98,15 @@ where
     G: Watcher + Copy + Send,
     L: Lines + Drop,
     P: Console + Drop,
-    requires some { 1 ≤ workers }
-    requires few { workers ≤ 8 }
     ensures runs { RunsNew (F.held supplies.entry.files.now) supplies.entry.limits
-        (plan_of task.configuration) (P.manner writer) (L.script task.lines)
+        (plan_of task.entry.configuration) (P.manner writer) (L.script task.entry.lines)
         (P.contents writer) (P.contents result.0) result.1 }
-    ensures keeps { result.1 < 2 → KeepsWhole (P.manner writer).form (L.script task.lines)
+    ensures keeps { result.1 < 2 → KeepsWhole (P.manner writer).form (L.script task.entry.lines)
         (P.contents writer) (P.contents result.0)
         (P.recorded writer) (P.recorded result.0) }
 {
     let Task {
+        words,
         configuration,
         lines,
         ..
@@ -104,12 +114,14 @@ where
     let Ok(shapes) = configuration.maps.clone() else {
         return (writer, 3);
     };
+    let workers = words.workers.max(1).min(8);
     let opening = Opening {
         settings: settings(configuration, workers),
         shapes,
         new: NewShards::new(PARTS),
+        lines,
     };
-    run_live::<Brand, F, G, R, L, P>(rt, alloc, opening, supplies, lines, writer)
+    run_live::<Brand, F, G, R, L, P>(rt, alloc, opening, supplies, writer)
 }
 
 /// Makes the capture of a run, if it keeps one. Err: it can't be written, which `err` is told, with the exit status.
@@ -135,11 +147,9 @@ fn begun<P: Recording, E: Write>(
 fn run_told<R, F, G, L, P, E>(
     rt: &R,
     alloc: Global,
-    words: RunWords<'_>,
-    task: Task<L>,
-    supplies: Supplies<'_, F, G>,
+    task: Task<'_, L>,
+    surroundings: Surroundings<'_, F, G, E>,
     out: P,
-    err: &mut E,
 ) -> (P, u8)
 where
     R: Threads + Wait + Sync,
@@ -148,23 +158,23 @@ where
     L: Lines + Drop,
     P: Recording + Drop,
     E: Write,
-    ensures runs { RunsNew (F.held supplies.entry.files.now) supplies.entry.limits
-        (plan_of task.configuration) words.entry.manner (L.script task.lines)
+    ensures runs { RunsNew (F.held surroundings.entry.files.now) surroundings.entry.limits
+        (plan_of task.entry.configuration) task.entry.words.manner (L.script task.entry.lines)
         (P.contents out) (P.contents result.0) result.1 }
-    ensures keeps { result.1 < 2 → KeepsWhole words.entry.manner.form (L.script task.lines)
-        (P.contents out) (P.contents result.0)
+    ensures keeps { result.1 < 2 → KeepsWhole task.entry.words.manner.form
+        (L.script task.entry.lines) (P.contents out) (P.contents result.0)
         (P.recorded out) (P.recorded result.0) }
 {
-    let RunWords {
-        script,
-        workers,
-        manner,
-        verbose,
-        prompts,
-        ..
-    } = words;
+    let Surroundings {
+        files,
+        limits,
+        gate,
+        err,
+    } = surroundings;
+    let words = task.words;
     let origin = task.origin;
-    let Ok(notes) = Notes::new(alloc, script, &task.configuration.maps, verbose) else {
+    let maps = &task.configuration.maps;
+    let Ok(notes) = Notes::new(alloc, words.script, maps, words.verbose) else {
         say_why(3, origin, err);
         return (out, 3);
     };
@@ -172,13 +182,17 @@ where
         out,
         err: &mut *err,
         notes,
-        manner,
-        prompts,
+        manner: words.manner,
+        prompts: words.prompts,
         is_flushed: false,
         reader_left: false,
     };
-    let workers = workers.max(1).min(8);
-    let (console, status) = run_task(rt, alloc, task, workers, supplies, console);
+    let supplies = Supplies {
+        files,
+        limits,
+        gate,
+    };
+    let (console, status) = run_task(rt, alloc, task, supplies, console);
     let reader_left = console.reader_left;
     let out = console.end();
     if !reader_left {
@@ -197,9 +211,8 @@ pub fn run<R, F, G, P, E>(
     rt: &R,
     alloc: Global,
     words: RunWords<'_>,
-    supplies: Supplies<'_, F, G>,
+    surroundings: Surroundings<'_, F, G, E>,
     out: P,
-    err: &mut E,
 ) -> (P, u8)
 where
     R: Threads + Wait + Sync,
@@ -207,22 +220,27 @@ where
     G: Watcher + Copy + Send,
     P: Recording + Drop,
     E: Write,
-    ensures runs { RunsScript (F.held supplies.entry.files.now) supplies.entry.limits
+    ensures runs { RunsScript (F.held surroundings.entry.files.now) surroundings.entry.limits
         words.entry.config.now words.entry.script.now words.entry.manner
         (P.contents out) (P.contents result.0) result.1 }
-    ensures keeps { result.1 < 2 → KeepsScript (F.held supplies.entry.files.now)
+    ensures keeps { result.1 < 2 → KeepsScript (F.held surroundings.entry.files.now)
         words.entry.script.now (AreKnown P.recorded) words.entry.manner.form
         (P.contents out) (P.contents result.0)
         (P.recorded out) (P.recorded result.0) }
 {
     let mut out = out;
-    let mut supplies = supplies;
-    let configuration = match configuration(alloc, words.config, &mut *supplies.files) {
+    let Surroundings {
+        files,
+        limits,
+        gate,
+        err,
+    } = surroundings;
+    let configuration = match configuration(alloc, words.config, &mut *files) {
         Ok(configuration) => configuration,
         Err(fault) => return (out, complain(alloc, &fault, err)),
     };
     say_if_group(alloc, words.config, &configuration, err);
-    let text = match read(alloc, words.script, FileKind::Script, &mut *supplies.files) {
+    let text = match read(alloc, words.script, FileKind::Script, &mut *files) {
         Ok(text) => text,
         Err(fault) => return (out, complain(alloc, &fault, err)),
     };
@@ -238,14 +256,21 @@ where
     if let Err(status) = begun(alloc, words.capture, &mut out, err) {
         return (out, status);
     }
-    supplies.gate.start(last_line(commands));
+    gate.start(last_line(commands));
     let lines = Script { commands };
     let task = Task {
+        words,
         configuration,
         lines,
         origin: Origin::Script,
     };
-    run_told(rt, alloc, words, task, supplies, out, err)
+    let surroundings = Surroundings {
+        files,
+        limits,
+        gate,
+        err,
+    };
+    run_told(rt, alloc, task, surroundings, out)
 }
 
 /// Runs the lines of an input as they come, and returns `out` and the exit status. Whenever what was read of the input
@@ -260,9 +285,8 @@ pub fn live<R, F, G, S, P, E>(
     rt: &R,
     alloc: Global,
     words: RunWords<'_>,
-    supplies: Supplies<'_, F, G>,
+    surroundings: Surroundings<'_, F, G, E>,
     streams: Streams<S, P>,
-    err: &mut E,
 ) -> (P, u8)
 where
     R: Threads + Wait + Sync,
@@ -271,7 +295,7 @@ where
     S: Source + Drop,
     P: Recording + Drop,
     E: Write,
-    ensures runs { RunsInput (F.held supplies.entry.files.now) supplies.entry.limits
+    ensures runs { RunsInput (F.held surroundings.entry.files.now) surroundings.entry.limits
         words.entry.config.now words.entry.manner
         (P.contents streams.out) (P.contents result.0) result.1 }
     ensures keeps { result.1 < 2 → KeepsCapture (AreKnown P.recorded) words.entry.manner.form None
@@ -279,37 +303,41 @@ where
         (P.recorded streams.out) (P.recorded result.0) }
 {
     let Streams { input, mut out, .. } = streams;
-    let mut supplies = supplies;
-    let configuration = match live_configuration(alloc, words.config, &mut *supplies.files, err) {
+    let mut surroundings = surroundings;
+    let configuration = match live_configuration(alloc, words.config, &mut *surroundings.files) {
         Ok(configuration) => configuration,
         Err(fault) => {
             input.end();
-            return (out, complain(alloc, &fault, err));
+            return (out, complain(alloc, &fault, &mut *surroundings.err));
         }
     };
+    say_if_group(alloc, words.config, &configuration, &mut *surroundings.err);
     let Ok(shapes) = configuration.maps.clone() else {
         input.end();
-        return (out, complain(alloc, &RunFault::NoMemory, err));
+        return (
+            out,
+            complain(alloc, &RunFault::NoMemory, &mut *surroundings.err),
+        );
     };
-    if let Err(status) = begun(alloc, words.capture, &mut out, err) {
+    if let Err(status) = begun(alloc, words.capture, &mut out, &mut *surroundings.err) {
         input.end();
         return (out, status);
     }
     let lines = Input::new(alloc, input, shapes);
     let task = Task {
+        words,
         configuration,
         lines,
         origin: Origin::Input,
     };
-    run_told(rt, alloc, words, task, supplies, out, err)
+    run_told(rt, alloc, task, surroundings, out)
 }
 
 /// The configuration of `apd live`, which takes standard input for its lines: no other file may be that.
-fn live_configuration<F: Files, E: Write>(
+fn live_configuration<F: Files>(
     alloc: Global,
     path: &str,
     files: &mut F,
-    err: &mut E,
 ) -> Result<Configuration, RunFault>
     ensures same { F.held files.new ≡ F.held files.old }
     ensures read { IfOk result (IsConfigurationAt (F.held files.old) path.now) }
@@ -318,6 +346,5 @@ fn live_configuration<F: Files, E: Write>(
         return Err(unreadable(alloc, INPUT, why));
     }
     let configuration = configuration(alloc, path, files)?;
-    say_if_group(alloc, path, &configuration, err);
     Ok(configuration)
 }

@@ -11,36 +11,43 @@ use apd_files::{FileFault, shown, write_whole};
 use apd_script::{ScriptFault, line_fault};
 use bpf_regions::Shapes;
 use std::alloc::{AllocError, Global};
+use std::fmt;
 use std::io::{ErrorKind, Write};
-use thiserror::Error;
 
 /// Why no script runs. Its text goes to standard error.
-#[derive(Debug, Drop, Error)]
+#[derive(Drop)]
 pub(crate) enum RunFault {
-    #[error("apd: cannot read {path}: {why}")]
     Unreadable {
         path: String,
         why: FileFault,
     },
-    #[error("apd: {path}: {why}")]
     Config {
         path: String,
         why: String,
     },
-    #[error("apd: {path}: {fault}{why}")]
     Script {
         path: String,
         fault: ScriptFault,
         why: String,
     },
     /// A capture isn't written, for this reason.
-    #[error("apd: cannot write {path}: {why}")]
     Capture {
         path: String,
         why: String,
     },
-    #[error("apd: out of memory")]
     NoMemory,
+}
+
+impl fmt::Display for RunFault {
+    fn fmt<W: fmt::Write>(&self, f: &mut fmt::Formatter<W>) -> fmt::Result {
+        match self {
+            RunFault::Unreadable { path, why } => write!(f, "apd: cannot read {path}: {why}"),
+            RunFault::Config { path, why } => write!(f, "apd: {path}: {why}"),
+            RunFault::Script { path, fault, why } => write!(f, "apd: {path}: {fault}{why}"),
+            RunFault::Capture { path, why } => write!(f, "apd: cannot write {path}: {why}"),
+            RunFault::NoMemory => f.write_str("apd: out of memory"),
+        }
+    }
 }
 
 impl From<AllocError> for RunFault {
@@ -73,9 +80,11 @@ pub(crate) fn uncaptured(alloc: Global, path: &str, why: Unrecorded) -> RunFault
         return RunFault::NoMemory;
     };
     let told = match kind {
-        ErrorKind::AlreadyExists => format!(in alloc; "it exists already; `--force` replaces it"),
-        ErrorKind::NotFound => format!(in alloc; "there is no such folder"),
-        ErrorKind::PermissionDenied => format!(in alloc; "it is not allowed"),
+        ErrorKind::AlreadyExists => {
+            String::from_str(alloc, "it exists already; `--force` replaces it")
+        }
+        ErrorKind::NotFound => String::from_str(alloc, "there is no such folder"),
+        ErrorKind::PermissionDenied => String::from_str(alloc, "it is not allowed"),
         kind => format!(in alloc; "{kind}"),
     };
     match told {

@@ -23,73 +23,73 @@ pub(crate) enum Cure {
     FirstEntry { map: u32, bytes: u32 },
 }
 
-pub(crate) const LONGEST_FRAME: Cure = Cure::Advice(
+pub(crate) static LONGEST_FRAME: Cure = Cure::Advice(
     "No frame has more than 2400 bytes: read less far.",
 );
 
-pub(crate) const NOT_BEFORE: Cure = Cure::Advice(
+pub(crate) static NOT_BEFORE: Cure = Cure::Advice(
     "Nothing lies before the first byte: add a number that is not negative.",
 );
 
-pub(crate) const BOUND_NUMBER: Cure = Cure::Advice(
+pub(crate) static BOUND_NUMBER: Cure = Cure::Advice(
     "Bound the number that is added (`at &= 1023`), make the pointer anew from it, and test that one.",
 );
 
-pub(crate) const SHORT_CONTEXT: Cure = Cure::Advice(
+pub(crate) static SHORT_CONTEXT: Cure = Cure::Advice(
     "The context has 32 bytes: read below byte 32.",
 );
 
-pub(crate) const NO_STACK_ARRAY: Cure = Cure::Advice(
+pub(crate) static NO_STACK_ARRAY: Cure = Cure::Advice(
     "The stack takes fixed offsets alone. Keep the array in a map: its entries, or the words of one entry, are the \
 elements.",
 );
 
-pub(crate) const STACK_FRAME: Cure = Cure::Advice(
+pub(crate) static STACK_FRAME: Cure = Cure::Advice(
     "A stack frame has the 512 bytes from r10-512 to r10-1.",
 );
 
-pub(crate) const READ_ONLY: Cure = Cure::Advice(
+pub(crate) static READ_ONLY: Cure = Cure::Advice(
     "The frame and the context are only read: compute in variables, and answer by the verdict.",
 );
 
-pub(crate) const LENGTH: Cure = Cure::Advice(
+pub(crate) static LENGTH: Cure = Cure::Advice(
     "Pointers are not subtracted. To test a length, write `frame + 30 > end`; to compute it, take `length_of` of \
 policies/counters.c.",
 );
 
-pub(crate) const DISTANCE: Cure = Cure::Advice(
+pub(crate) static DISTANCE: Cure = Cure::Advice(
     "Pointers are not subtracted. Keep the place as a number, and make the pointer from it: `p = frame + at`.",
 );
 
-pub(crate) const FIXED_END: Cure = Cure::Advice(
+pub(crate) static FIXED_END: Cure = Cure::Advice(
     "Nothing is added to `end`: move the other side, as in `frame + 30 > end`.",
 );
 
-pub(crate) const COMPARE_WITH_END: Cure = Cure::Advice(
+pub(crate) static COMPARE_WITH_END: Cure = Cure::Advice(
     "A pointer is compared with `end` or with 0 alone: compare the numbers that were added to it.",
 );
 
-pub(crate) const NUMBERS_IN_MAPS: Cure = Cure::Advice(
+pub(crate) static NUMBERS_IN_MAPS: Cure = Cure::Advice(
     "A map takes numbers alone: store what the pointer leads to.",
 );
 
-pub(crate) const NO_ADDRESS: Cure = Cure::Advice(
+pub(crate) static NO_ADDRESS: Cure = Cure::Advice(
     "The address is a number. Where a variable outside of functions was meant, take a map; policies/policy-hex \
 refuses such a file.",
 );
 
-pub(crate) const INLINE_FUNCTION: Cure = Cure::Advice(
+pub(crate) static INLINE_FUNCTION: Cure = Cure::Advice(
     "A function returns a number: make it `static inline`, and compile with -O1, -Os or -O2.",
 );
 
-pub(crate) const DECLARE_MAPS: Cure = Cure::Advice(
+pub(crate) static DECLARE_MAPS: Cure = Cure::Advice(
     "There are no maps: declare them in a configuration, and name it by `--config`; the first is map 0.",
 );
 
 impl fmt::Display for Cure {
     fn fmt<W: fmt::Write>(&self, f: &mut fmt::Formatter<W>) -> fmt::Result {
         match self {
-            Cure::Advice(text) => write!(f, "{text}"),
+            Cure::Advice(text) => f.write_str(text),
             Cure::TestFrame { bytes } => write!(
                 f,
                 "Test the length first: `if (frame + {bytes} > end) return ..;`."

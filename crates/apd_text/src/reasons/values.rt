@@ -3,6 +3,7 @@
 use bpf_absnum::AbsNum;
 use bpf_absval::{AbsRegion, AbsSlot, AbsVal, Label};
 use std::fmt;
+use std::fmt::Display;
 
 /// Numbers, by their limits: `5`, `-4 .. 3`, `0 .. 56, multiples of 8`, `any number`. Signed limits are shown if they
 /// tell more.
@@ -40,7 +41,7 @@ impl fmt::Display for NumberText {
         if self.0.is_single() {
             return write!(f, "{}", self.0.range().low().cast_signed());
         }
-        write!(f, "{}", Limits(self.0))?;
+        Limits(self.0).fmt(f)?;
         let zeros = self.0.bits().trailing_zeros();
         if 0 < zeros && zeros < 64 {
             return write!(f, ", multiples of {}", 1u64 << zeros);
@@ -83,7 +84,7 @@ impl fmt::Display for ValueText {
     fn fmt<W: fmt::Write>(&self, f: &mut fmt::Formatter<W>) -> fmt::Result {
         match self.0 {
             AbsVal::Unset => f.write_str("unset"),
-            AbsVal::Number(number) => write!(f, "{}", NumberText(number)),
+            AbsVal::Number(number) => NumberText(number).fmt(f),
             AbsVal::Frame { offset, label } => write!(
                 f,
                 "frame + {}{}",
@@ -111,7 +112,7 @@ impl fmt::Display for SlotText {
     fn fmt<W: fmt::Write>(&self, f: &mut fmt::Formatter<W>) -> fmt::Result {
         match self.0 {
             AbsSlot::Unset => f.write_str("unset"),
-            AbsSlot::Stored(value) => write!(f, "{}", ValueText(value)),
+            AbsSlot::Stored(value) => ValueText(value).fmt(f),
             AbsSlot::Bytes(set) => write_set(f, set),
         }
     }

@@ -4,7 +4,7 @@ use crate::refusals::page::Explanation;
 
 const CERTIFY: &str = "Make it anew by `apd cert`, with the configuration that is used here.";
 
-pub(crate) const EXPLANATIONS: [Explanation; 3] = [
+pub(crate) static EXPLANATIONS: [Explanation; 3] = [
     Explanation {
         number: 70,
         title: "the certificate is malformed",

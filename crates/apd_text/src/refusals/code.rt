@@ -6,7 +6,7 @@ const RETURNS_ONE: Example = Example::Code("b700000001000000 9500000000000000");
 
 const RETURNS_ZERO: Example = Example::Code("b700000000000000 9500000000000000");
 
-pub(crate) const EXPLANATIONS: [Explanation; 13] = [
+pub(crate) static EXPLANATIONS: [Explanation; 13] = [
     Explanation {
         number: 1,
         title: "the code is cut within a slot",

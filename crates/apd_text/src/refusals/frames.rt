@@ -4,7 +4,7 @@ use crate::refusals::page::Explanation;
 
 const NO_CURE: &str = "Nothing is to be done: the frame is passed over, and nothing changes.";
 
-pub(crate) const EXPLANATIONS: [Explanation; 7] = [
+pub(crate) static EXPLANATIONS: [Explanation; 7] = [
     Explanation {
         number: 50,
         title: "the frame is too short",

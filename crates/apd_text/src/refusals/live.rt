@@ -2,7 +2,7 @@
 
 use crate::refusals::page::Explanation;
 
-pub(crate) const EXPLANATIONS: [Explanation; 4] = [
+pub(crate) static EXPLANATIONS: [Explanation; 4] = [
     Explanation {
         number: 60,
         title: "the program was verified for other maps",

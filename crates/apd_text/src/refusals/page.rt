@@ -35,28 +35,30 @@ pub struct Explanation {
     pub cure: &'static str,
 }
 
-/// All pages, by the part of `apd` that refuses.
-const PARTS: [&[Explanation]; 6] = [
-    &code::EXPLANATIONS,
-    &text::EXPLANATIONS,
-    &verifier::EXPLANATIONS,
-    &frames::EXPLANATIONS,
-    &live::EXPLANATIONS,
-    &certificates::EXPLANATIONS,
-];
-
-/// The page on a number; `None` if no refusal has it.
-pub fn explain(number: u8) -> Option<Explanation>
+/// The page on a number among these.
+fn page_in(pages: &[Explanation], number: u8) -> Option<Explanation>
     ensures number { IfSome result (λ page. page.number ≡ number) }
 {
-    for part in PARTS {
-        for page in part {
-            if page.number == number {
-                return Some(*page);
-            }
+    for page in pages {
+        if page.number == number {
+            return Some(*page);
         }
     }
     None
+}
+
+/// The page on a number; `None` if no refusal has it. Each part of `apd` that refuses has numbers of its own.
+pub fn explain(number: u8) -> Option<Explanation>
+    ensures number { IfSome result (λ page. page.number ≡ number) }
+{
+    match number {
+        0..=19 => page_in(&code::EXPLANATIONS, number),
+        20..=29 => page_in(&text::EXPLANATIONS, number),
+        30..=49 => page_in(&verifier::EXPLANATIONS, number),
+        50..=59 => page_in(&frames::EXPLANATIONS, number),
+        60..=69 => page_in(&live::EXPLANATIONS, number),
+        _ => page_in(&certificates::EXPLANATIONS, number),
+    }
 }
 
 /// The text of the page on a number, which begins with the number.

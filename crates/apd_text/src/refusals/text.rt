@@ -4,7 +4,7 @@ use crate::refusals::page::{Example, Explanation};
 
 const MOVES: Example = Example::Text("mov r0, 0\nexit\n");
 
-pub(crate) const EXPLANATIONS: [Explanation; 3] = [
+pub(crate) static EXPLANATIONS: [Explanation; 3] = [
     Explanation {
         number: 20,
         title: "the line is not in the grammar",

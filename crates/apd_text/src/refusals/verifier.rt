@@ -4,7 +4,7 @@ use crate::refusals::page::{Example, Explanation};
 
 const MOVES: Example = Example::Text("mov r0, 0\nexit\n");
 
-pub(crate) const EXPLANATIONS: [Explanation; 10] = [
+pub(crate) static EXPLANATIONS: [Explanation; 10] = [
     Explanation {
         number: 30,
         title: "something unset is read",

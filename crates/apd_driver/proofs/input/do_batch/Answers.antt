@@ -7,7 +7,7 @@ use Rattle.apd_driver.proofs.Waits.{same_after}
 use Rattle.apd_driver.proofs.input.do_batch.Goals as goal
 
 pub whole_interval-requires-clause-whole : goal.whole_interval-requires-clause-whole
-whole_interval-requires-clause-whole g c = rw c.as_slice.ensures.value (sym (same_after c.args.batch.commands.items) ∙ c.requires.whole)
+whole_interval-requires-clause-whole g c = rw c.as_slice.ensures.value (sym (same_after c.args.batch.now.commands.items) ∙ c.requires.whole)
 
 pub returns-clause-shows : goal.returns-clause-shows
 returns-clause-shows g c =

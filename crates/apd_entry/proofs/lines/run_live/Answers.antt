@@ -11,7 +11,7 @@ returns-in_default g c =
 
 pub returns-in-Ok : goal.returns-in-Ok
 returns-in-Ok g c =
-    record { runs = runs_formed (g.F.Files.held c.args.files.now) c.args.asked.states c.args.asked.work c.args.asked.config.now c.args.streams.shown c.args.asked.strict c.in-Some.form (text_of c.args.asked.events) (text_of c.args.asked.color) _ _ _ c.in-Some.ensures.is (rw c.within.ensures.is at (rw c.words_of-words.ensures.manner at (rw c.words_of-words.ensures.config at c.live-in-Ok.ensures.runs))); keeps = λ few. in_form _ c.in-Some.form _ _ _ _ _ c.in-Some.ensures.is (rw c.words_of-words.ensures.manner at (c.live-in-Ok.ensures.keeps few)) }
+    record { runs = runs_formed (g.F.Files.held c.args.files.now) c.args.asked.states c.args.asked.work c.args.asked.config.now c.args.streams.shown c.args.asked.strict c.in-Some.form (text_of c.args.asked.events) (text_of c.args.asked.color) _ _ _ c.in-Some.ensures.is (rw c.within-limits.ensures.is at (rw c.words_of-words.ensures.manner at (rw c.words_of-words.ensures.config at c.live-in-Ok.ensures.runs))); keeps = λ few. in_form _ c.in-Some.form _ _ _ _ _ c.in-Some.ensures.is (rw c.words_of-words.ensures.manner at (c.live-in-Ok.ensures.keeps few)) }
 
 pub returns-in-Err : goal.returns-in-Err
 returns-in-Err g c =
