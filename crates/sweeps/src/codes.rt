@@ -29,61 +29,34 @@ fn slot(numbers: &mut Numbers, code: &[u8]) -> usize
     8 * numbers.place_in(code.len() / 8)
 }
 
-/// Another opcode.
-fn set_opcode(numbers: &mut Numbers, code: &mut [u8])
-    requires { 8 ≤ length code.old }
-{
-    let at = slot(numbers, code);
-    code[at] = numbers.one_of(&OPCODES);
-}
-
-/// Other registers.
-fn set_registers(numbers: &mut Numbers, code: &mut [u8])
-    requires { 8 ≤ length code.old }
-{
-    let at = slot(numbers, code);
+/// Other registers in a byte.
+fn registers(numbers: &mut Numbers, before: u8) -> u8 {
     let source = (numbers.byte() & 15) % 11;
     let destination = (numbers.byte() & 15) % 11;
-    code[at + 1] = match numbers.below(4) {
+    match numbers.below(4) {
         0 => numbers.byte(),
-        1 => (source << 4) | (code[at + 1] & 15),
-        _ => (code[at + 1] & 0xf0) | destination,
-    };
+        1 => (source << 4) | (before & 15),
+        _ => (before & 0xf0) | destination,
+    }
 }
 
-/// Another offset.
-fn set_offset(numbers: &mut Numbers, code: &mut [u8])
+/// A field of a slot changed: the opcode, the registers, the offset, the immediate value, or 1 added to one of these two
+/// or subtracted.
+fn set_field(numbers: &mut Numbers, code: &mut [u8], field: u64)
     requires { 8 ≤ length code.old }
 {
     let at = slot(numbers, code);
-    let [low, high] = offset(numbers).to_le_bytes();
-    code[at + 2] = low;
-    code[at + 3] = high;
-}
-
-/// Another immediate value.
-fn set_value(numbers: &mut Numbers, code: &mut [u8])
-    requires { 8 ≤ length code.old }
-{
-    let at = slot(numbers, code);
-    let [a, b, c, d] = value(numbers).to_le_bytes();
-    code[at + 4] = a;
-    code[at + 5] = b;
-    code[at + 6] = c;
-    code[at + 7] = d;
-}
-
-/// Adds or subtracts 1 at the value or the offset.
-fn nudge(numbers: &mut Numbers, code: &mut [u8])
-    requires { 8 ≤ length code.old }
-{
-    let at = slot(numbers, code);
-    let at = if numbers.is_one_in(2) { at + 2 } else { at + 4 };
-    code[at] = if numbers.is_one_in(2) {
-        code[at].wrapping_add(1)
-    } else {
-        code[at].wrapping_sub(1)
-    };
+    match field {
+        0 => code[at] = numbers.one_of(&OPCODES),
+        1 => code[at + 1] = registers(numbers, code[at + 1]),
+        2 => code[at + 2..at + 4].copy_from_slice(&offset(numbers).to_le_bytes()),
+        3 => code[at + 4..at + 8].copy_from_slice(&value(numbers).to_le_bytes()),
+        _ => {
+            let at = if numbers.is_one_in(2) { at + 2 } else { at + 4 };
+            let step = if numbers.is_one_in(2) { 1u8 } else { 0xff };
+            code[at] = code[at].wrapping_add(step);
+        }
+    }
 }
 
 /// The code with slots removed or repeated, or a random slot inserted.
@@ -105,14 +78,11 @@ fn changed(alloc: Global, numbers: &mut Numbers, mut code: Vec<u8>) -> Result<Ve
     if code.len() < 8 {
         return Ok(code);
     }
-    match numbers.below(8) {
-        0 => set_opcode(numbers, &mut code),
-        1 => set_registers(numbers, &mut code),
-        2 => set_offset(numbers, &mut code),
-        3 => set_value(numbers, &mut code),
-        4 | 5 => nudge(numbers, &mut code),
-        _ => return reshaped(alloc, numbers, &code),
+    let field = numbers.below(8);
+    if field > 5 {
+        return reshaped(alloc, numbers, &code);
     }
+    set_field(numbers, &mut code, field);
     Ok(code)
 }
 

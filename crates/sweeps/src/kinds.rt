@@ -1,264 +1,234 @@
 //! Kinds of input: how each is made and tested.
 
-use crate::captures::CAPTURES;
 use crate::changes::{mutated, random_bytes};
 use crate::codes::code;
+use crate::files::samples;
 use crate::numbers::Numbers;
-use crate::programs::PROGRAMS;
-use crate::samples::{CONFIGURATIONS, FRAMES, SCRIPTS};
 use crate::tally::Judged;
-use crate::{admitted, captured, certified, framed, texts};
+use crate::{admitted, assembled, captured, certified, configured, framed, scripted};
 use std::alloc::{AllocError, Global};
+use std::io;
+use std::rt::Files;
+
+/// What an input is.
+#[derive(Clone, Copy)]
+pub enum Of {
+    /// Code for the verifier and for both machines.
+    Code,
+    /// A frame with changes.
+    Frame,
+    /// A frame cut at a length, or with a byte set to a value.
+    Octet,
+    /// Assembler text.
+    Text,
+    Configuration,
+    Script,
+    /// A certificate for the code that it names.
+    Certificate,
+    Capture,
+}
 
 /// A kind of input.
 #[derive(Clone, Copy)]
-pub enum Kind {
-    /// Code for the verifier and for both machines.
-    Code,
-    /// Frames with changes.
-    Frames,
-    /// Frames of each kind cut at each length, and with each byte set to each value.
-    Octets,
-    /// Assembler text.
-    Texts,
-    Configurations,
-    Scripts,
-    /// Certificates for the code that they name.
-    Certificates,
-    Captures,
+pub struct Kind {
+    pub name: &'static str,
+    pub of: Of,
+    /// The list of the samples from which its inputs are made.
+    samples: &'static str,
+    /// How many inputs a short sweep has.
+    pub few: u64,
+    /// What may appear in an input.
+    words: &'static [&'static str],
 }
 
 /// All of them.
-pub const ALL: [Kind; 8] = [
-    Kind::Code,
-    Kind::Frames,
-    Kind::Octets,
-    Kind::Texts,
-    Kind::Configurations,
-    Kind::Scripts,
-    Kind::Certificates,
-    Kind::Captures,
+pub static KINDS: [Kind; 8] = [
+    Kind {
+        name: "code",
+        of: Of::Code,
+        samples: "samples/code",
+        few: 5000,
+        words: &[],
+    },
+    Kind {
+        name: "frames",
+        of: Of::Frame,
+        samples: "samples/frames",
+        few: 200000,
+        words: &[],
+    },
+    Kind {
+        name: "octets",
+        of: Of::Octet,
+        samples: "samples/frames",
+        few: 120000,
+        words: &[],
+    },
+    Kind {
+        name: "texts",
+        of: Of::Text,
+        samples: "samples/code",
+        few: 50000,
+        words: &[
+            "r0",
+            "r1",
+            "r10",
+            "r11",
+            "mov",
+            "add32",
+            "lddw",
+            "ldxdw",
+            "ldsxb",
+            "stxw",
+            "stdw",
+            "jne",
+            "jsgt32",
+            "ja",
+            "call",
+            "local",
+            "exit",
+            "map",
+            "value",
+            "cmpxchg",
+            "fetch_or",
+            "movsx16_32",
+            "swap32",
+            "neg",
+            "[r10-8]",
+            "[r1+0]",
+            "+1",
+            "-32768",
+            "+32768",
+            "0x",
+            "0xffffffff",
+            "-2147483648",
+            "18446744073709551616",
+            ", ",
+            "\n",
+            "#",
+            " ",
+            "32",
+            "le64",
+            "atomic_xor",
+        ],
+    },
+    Kind {
+        name: "configurations",
+        of: Of::Configuration,
+        samples: "samples/configurations",
+        few: 20000,
+        words: &[
+            "bssid",
+            "ssid",
+            "rates",
+            "draw",
+            "[[map]]",
+            "[map]",
+            "entries",
+            "words",
+            "width",
+            "scope",
+            "shared",
+            "worker",
+            "=",
+            "\"",
+            "'",
+            "\"\"\"",
+            "\n",
+            "0x",
+            "-1",
+            "4096",
+            "4097",
+            "{",
+            "}",
+            "[",
+            "]",
+            "\\u00e9",
+            "1e400",
+            "1979-05-27T07:32:00Z",
+        ],
+    },
+    Kind {
+        name: "scripts",
+        of: Of::Script,
+        samples: "samples/scripts",
+        few: 100000,
+        words: &[
+            "frame",
+            "tick",
+            "kick",
+            "close",
+            "load",
+            "unload",
+            "adopt",
+            "store",
+            "read",
+            "sum",
+            "wait",
+            "assoc",
+            "addba",
+            "data",
+            " ",
+            "\n",
+            "#",
+            "\t",
+            "\r",
+            "0",
+            "65536",
+            "4294967296",
+            "00",
+            "a/b",
+        ],
+    },
+    Kind {
+        name: "certificates",
+        of: Of::Certificate,
+        samples: "samples/code",
+        few: 10000,
+        words: &[],
+    },
+    Kind {
+        name: "captures",
+        of: Of::Capture,
+        samples: "samples/captures",
+        few: 100000,
+        words: &[],
+    },
 ];
-
-/// What may appear in a program's text.
-const ASSEMBLER: [&str; 40] = [
-    "r0",
-    "r1",
-    "r10",
-    "r11",
-    "mov",
-    "add32",
-    "lddw",
-    "ldxdw",
-    "ldsxb",
-    "stxw",
-    "stdw",
-    "jne",
-    "jsgt32",
-    "ja",
-    "call",
-    "local",
-    "exit",
-    "map",
-    "value",
-    "cmpxchg",
-    "fetch_or",
-    "movsx16_32",
-    "swap32",
-    "neg",
-    "[r10-8]",
-    "[r1+0]",
-    "+1",
-    "-32768",
-    "+32768",
-    "0x",
-    "0xffffffff",
-    "-2147483648",
-    "18446744073709551616",
-    ", ",
-    "\n",
-    "#",
-    " ",
-    "32",
-    "le64",
-    "atomic_xor",
-];
-
-/// What may appear in a configuration.
-const TOML: [&str; 28] = [
-    "bssid",
-    "ssid",
-    "rates",
-    "draw",
-    "[[map]]",
-    "[map]",
-    "entries",
-    "words",
-    "width",
-    "scope",
-    "shared",
-    "worker",
-    "=",
-    "\"",
-    "'",
-    "\"\"\"",
-    "\n",
-    "0x",
-    "-1",
-    "4096",
-    "4097",
-    "{",
-    "}",
-    "[",
-    "]",
-    "\\u00e9",
-    "1e400",
-    "1979-05-27T07:32:00Z",
-];
-
-/// What may appear in a script.
-const SCRIPT: [&str; 24] = [
-    "frame",
-    "tick",
-    "kick",
-    "close",
-    "load",
-    "unload",
-    "adopt",
-    "store",
-    "read",
-    "sum",
-    "wait",
-    "assoc",
-    "addba",
-    "data",
-    " ",
-    "\n",
-    "#",
-    "\t",
-    "\r",
-    "0",
-    "65536",
-    "4294967296",
-    "00",
-    "a/b",
-];
-
-/// The first `size` bytes of these numbers.
-fn bytes_of(alloc: Global, size: usize, words: &[u64]) -> Result<Vec<u8>, AllocError> {
-    let mut bytes = Vec::new(alloc);
-    for word in words {
-        bytes.extend_from_slice(&word.to_be_bytes())?;
-    }
-    bytes.truncate(size);
-    Ok(bytes)
-}
-
-/// The bytes of samples, each with its length.
-fn of_sizes(alloc: Global, all: &[(usize, &[u64])]) -> Result<Vec<Vec<u8>>, AllocError> {
-    let mut samples = Vec::new(alloc);
-    for (size, words) in all {
-        samples.push(bytes_of(alloc, *size, words)?)?;
-    }
-    Ok(samples)
-}
-
-/// The bytes of texts.
-fn of_texts(alloc: Global, all: &[&str]) -> Result<Vec<Vec<u8>>, AllocError> {
-    let mut samples = Vec::new(alloc);
-    for text in all {
-        samples.push(Vec::from_slice(alloc, text.as_bytes())?)?;
-    }
-    Ok(samples)
-}
-
-/// The code of the programs.
-fn of_programs(alloc: Global) -> Result<Vec<Vec<u8>>, AllocError> {
-    let mut samples = Vec::new(alloc);
-    for slots in &PROGRAMS {
-        samples.push(bytes_of(alloc, usize::MAX, slots)?)?;
-    }
-    Ok(samples)
-}
-
-/// The text of those programs.
-fn of_text(alloc: Global) -> Result<Vec<Vec<u8>>, AllocError> {
-    let mut samples = Vec::new(alloc);
-    for code in &of_programs(alloc)? {
-        samples.push(texts::text_of(alloc, code)?)?;
-    }
-    Ok(samples)
-}
-
-/// The certificates of those programs.
-fn of_certificates(alloc: Global) -> Result<Vec<Vec<u8>>, AllocError> {
-    let mut samples = Vec::new(alloc);
-    for code in &of_programs(alloc)? {
-        samples.push(certified::certificate_of(alloc, code)?)?;
-    }
-    Ok(samples)
-}
 
 impl Kind {
     /// The kind with a name.
-    pub fn named(word: &str) -> Option<Kind> {
-        match word {
-            "code" => Some(Kind::Code),
-            "frames" => Some(Kind::Frames),
-            "octets" => Some(Kind::Octets),
-            "texts" => Some(Kind::Texts),
-            "configurations" => Some(Kind::Configurations),
-            "scripts" => Some(Kind::Scripts),
-            "certificates" => Some(Kind::Certificates),
-            "captures" => Some(Kind::Captures),
-            _ => None,
+    pub fn named(word: &str) -> Option<&'static Kind> {
+        for kind in &KINDS {
+            if kind.name == word {
+                return Some(kind);
+            }
         }
+        None
     }
 
-    /// Its name.
-    pub fn name(self) -> &'static str {
-        match self {
-            Kind::Code => "code",
-            Kind::Frames => "frames",
-            Kind::Octets => "octets",
-            Kind::Texts => "texts",
-            Kind::Configurations => "configurations",
-            Kind::Scripts => "scripts",
-            Kind::Certificates => "certificates",
-            Kind::Captures => "captures",
-        }
-    }
-
-    /// How many inputs a short sweep has.
-    pub fn few(self) -> u64 {
-        match self {
-            Kind::Code => 5000,
-            Kind::Frames => 200000,
-            Kind::Octets => 120000,
-            Kind::Texts => 50000,
-            Kind::Configurations => 20000,
-            Kind::Scripts => 100000,
-            Kind::Certificates => 10000,
-            Kind::Captures => 100000,
+    /// A sample as an input: code as it is, its text or its certificate.
+    fn turned(&self, alloc: Global, sample: Vec<u8>) -> Result<Vec<u8>, AllocError> {
+        match self.of {
+            Of::Text => assembled::text_of(alloc, &sample),
+            Of::Certificate => certified::certificate_of(alloc, &sample),
+            _ => Ok(sample),
         }
     }
 
     /// The samples from which its inputs are made.
-    pub fn samples(self, alloc: Global) -> Result<Vec<Vec<u8>>, AllocError> {
-        match self {
-            Kind::Code => of_programs(alloc),
-            Kind::Frames | Kind::Octets => of_sizes(alloc, &FRAMES),
-            Kind::Texts => of_text(alloc),
-            Kind::Configurations => of_texts(alloc, &CONFIGURATIONS),
-            Kind::Scripts => of_texts(alloc, &SCRIPTS),
-            Kind::Certificates => of_certificates(alloc),
-            Kind::Captures => of_sizes(alloc, &CAPTURES),
+    pub fn samples<R: Files + AllocGlobal>(&self, rt: &R) -> io::Result<Vec<Vec<u8>>> {
+        let alloc = rt.alloc();
+        let mut turned = Vec::new(alloc);
+        for sample in samples(rt, self.samples)? {
+            turned.push(self.turned(alloc, sample)?)?;
         }
+        Ok(turned)
     }
 
     /// An input from a sample.
     pub fn input(
-        self,
+        &self,
         alloc: Global,
         numbers: &mut Numbers,
         sample: &[u8],
@@ -266,30 +236,27 @@ impl Kind {
         if numbers.is_one_in(64) {
             return random_bytes(alloc, numbers, 65);
         }
-        match self {
-            Kind::Code => code(alloc, numbers, sample),
-            Kind::Texts => mutated(alloc, numbers, sample, &ASSEMBLER),
-            Kind::Configurations => mutated(alloc, numbers, sample, &TOML),
-            Kind::Scripts => mutated(alloc, numbers, sample, &SCRIPT),
-            _ => mutated(alloc, numbers, sample, &[]),
+        match self.of {
+            Of::Code => code(alloc, numbers, sample),
+            _ => mutated(alloc, numbers, sample, self.words),
         }
     }
 
     /// Tests an input.
     pub fn judged(
-        self,
+        &self,
         alloc: Global,
         numbers: &mut Numbers,
         input: &[u8],
     ) -> Result<Judged, AllocError> {
-        match self {
-            Kind::Code => admitted::judged(alloc, numbers, input),
-            Kind::Frames | Kind::Octets => framed::judged(alloc, input),
-            Kind::Texts => texts::judged_text(alloc, input),
-            Kind::Configurations => texts::judged_configuration(alloc, input),
-            Kind::Scripts => texts::judged_script(alloc, input),
-            Kind::Certificates => certified::judged(alloc, numbers, input),
-            Kind::Captures => captured::judged(alloc, input),
+        match self.of {
+            Of::Code => admitted::judged(alloc, numbers, input),
+            Of::Frame | Of::Octet => framed::judged(alloc, input),
+            Of::Text => assembled::judged(alloc, input),
+            Of::Configuration => configured::judged(alloc, input),
+            Of::Script => scripted::judged(alloc, input),
+            Of::Certificate => certified::judged(alloc, numbers, input),
+            Of::Capture => captured::judged(alloc, input),
         }
     }
 }

@@ -2,7 +2,8 @@
 //! accepted and refused. Each run tests again what the libraries prove: this is evidence against faulty tools.
 //!
 //! `sweeps` makes a few inputs of each kind, `sweeps KIND` some of one, and `sweeps KIND COUNT SEED` any number, from a
-//! seed. Input N of a seed is the first input of the seed that is N greater. The kinds:
+//! seed. Input N of a seed is the first input of the seed that is N greater. It reads its samples from files: it runs in
+//! `data/`. The kinds:
 //!
 //! - `code`: is decoded, written again, and verified; accepted code runs on eight frames on both machines, whose
 //!   results agree within the budget, and no run of it meets a fault. Code that may take long to verify is put aside;
@@ -12,32 +13,38 @@
 //! - `configurations`, `scripts`, `captures`: are read twice, with the same result;
 //! - `certificates`: are checked for the code that they name; accepted code runs as above.
 //!
-//! If something is wrong, it prints the kind, the seed and the input, and exits with status 1.
+//! `sweeps` then asks what the rows in `rows/` say of worked programs, and compares the results with theirs: `rows` says
+//! how they are written.
+//!
+//! If something is wrong, it prints the kind, the seed and the input, or the row and its result, and exits with status 1.
 #![tactic(auto)]
 
 mod admitted;
+mod assembled;
 mod captured;
-mod captures;
+mod certificates;
 mod certified;
 mod changes;
 mod codes;
+mod configured;
+mod files;
 mod framed;
 mod grown;
 mod kinds;
 mod maps;
 mod numbers;
-mod programs;
+mod rows;
 mod runs;
-mod samples;
+mod scripted;
 mod slots;
 mod sweep;
 mod tally;
-mod texts;
 mod weight;
+mod worked;
 
-use kinds::{ALL, Kind};
-use std::alloc::Global;
+use kinds::{KINDS, Kind};
 use std::process::ExitCode;
+use std::rt::Files;
 use std::{env, io};
 use sweep::{Task, print_counts};
 
@@ -62,21 +69,24 @@ fn task_of(words: &[String]) -> Option<Task> {
     }
     Some(Task {
         kind,
-        count: number_or(words.get(1), kind.few())?,
+        count: number_or(words.get(1), kind.few)?,
         seed: number_or(words.get(2), 0)?,
     })
 }
 
-/// A short sweep of each kind. False if something is wrong.
-fn print_all<R: Print + Eprint>(rt: &R, alloc: Global) -> io::Result<bool> {
+/// A short sweep of each kind, and all rows. False if something is wrong.
+fn print_all<R: Print + Eprint + Files + AllocGlobal>(rt: &R) -> io::Result<bool> {
     let mut right = true;
-    for kind in ALL {
+    for kind in &KINDS {
         let task = Task {
             kind,
-            count: kind.few(),
+            count: kind.few,
             seed: 0,
         };
-        right &= print_counts(rt, alloc, task)?;
+        right &= print_counts(rt, task)?;
+    }
+    for name in &rows::FILES {
+        right &= rows::print_rows(rt, name)?;
     }
     Ok(right)
 }
@@ -87,17 +97,16 @@ fn status(right: bool) -> ExitCode {
 }
 
 fn main(rt: HostRuntime) -> io::Result<ExitCode> {
-    let alloc = rt.alloc();
-    let mut words = Vec::new(alloc);
+    let mut words = Vec::new(rt.alloc());
     for word in env::args(&rt)?.skip(1) {
         words.push(word)?;
     }
     if words.is_empty() {
-        return Ok(status(print_all(&rt, alloc)?));
+        return Ok(status(print_all(&rt)?));
     }
     let Some(task) = task_of(&words) else {
         eprintln!(rt; "sweeps: {USAGE}")?;
         return Ok(ExitCode::from(2));
     };
-    Ok(status(print_counts(&rt, alloc, task)?))
+    Ok(status(print_counts(&rt, task)?))
 }

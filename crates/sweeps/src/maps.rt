@@ -28,8 +28,8 @@ const NARROW: Shape = Shape {
     scope: Scope::Shared,
 };
 
-/// The shapes of these maps, which are within the limits.
-fn shapes_of(maps: Vec<Shape>) -> Result<Shapes, AllocError> {
+/// The shapes of these maps. If they aren't within the limits, lack of memory.
+pub fn shapes_of(maps: Vec<Shape>) -> Result<Shapes, AllocError> {
     match Shapes::new(maps) {
         Some(shapes) => Ok(shapes),
         None => Err(AllocError),

@@ -74,7 +74,33 @@ fn context(numbers: &mut Numbers) -> [u8; 32] {
     bytes
 }
 
+/// A frame of this size: `start`, then the byte.
+fn filled(alloc: Global, start: &[u8], byte: u8, size: usize) -> Result<Vec<u8>, AllocError> {
+    let mut bytes = Vec::from_slice(alloc, start)?;
+    bytes.resize(size, byte)?;
+    Ok(bytes)
+}
+
+/// Frames of 0, 24, 26 and 2400 bytes, all ones or a datagram.
+fn worked_frames(alloc: Global) -> Result<Vec<Vec<u8>>, AllocError> {
+    let mut frames = Vec::new(alloc);
+    for size in [0usize, 24, 26, 2400] {
+        frames.push(filled(alloc, &[], 1, size)?)?;
+        frames.push(filled(alloc, &DATAGRAM, 7, size)?)?;
+    }
+    Ok(frames)
+}
+
 impl Inputs {
+    /// The inputs of worked programs.
+    pub fn worked(alloc: Global) -> Result<Inputs, AllocError> {
+        Ok(Inputs {
+            frames: worked_frames(alloc)?,
+            context: [0x5a; 32],
+            answers: Vec::from_slice(alloc, &[61, 5, 7, 70, 3])?,
+        })
+    }
+
     /// The inputs of a seed.
     pub fn new(alloc: Global, seed: u64) -> Result<Inputs, AllocError> {
         let mut numbers = Numbers::new(seed);

@@ -1,16 +1,17 @@
 //! A sweep: inputs of a kind, made from a seed, and their results.
 
 use crate::framed::edge_of;
-use crate::kinds::Kind;
+use crate::kinds::{Kind, Of};
 use crate::numbers::Numbers;
 use crate::tally::{Judged, Tally};
 use std::alloc::{AllocError, Global};
 use std::io;
+use std::rt::Files;
 
 /// A sweep: the kind, how many inputs, and the seed of the first. Each next input has the next seed.
 #[derive(Clone, Copy)]
 pub struct Task {
-    pub kind: Kind,
+    pub kind: &'static Kind,
     pub count: u64,
     pub seed: u64,
 }
@@ -26,12 +27,12 @@ struct Found {
 /// The input of a seed.
 fn input_of(
     alloc: Global,
-    kind: Kind,
+    kind: &Kind,
     numbers: &mut Numbers,
     samples: &[Vec<u8>],
     seed: u64,
 ) -> Result<Vec<u8>, AllocError> {
-    if let Kind::Octets = kind {
+    if let Of::Octet = kind.of {
         return edge_of(alloc, samples, seed as usize);
     }
     if samples.is_empty() {
@@ -59,7 +60,7 @@ fn swept<R: Eprint>(
         }
         tally.count(judged);
         if number % 0x10_0000 == 0xf_ffff {
-            eprintln!(rt; "{}: {}", task.kind.name(), tally)?;
+            eprintln!(rt; "{}: {}", task.kind.name, tally)?;
         }
     }
     Ok((tally, None))
@@ -74,10 +75,13 @@ fn print_digits<R: Print>(rt: &R, bytes: &[u8]) -> io::Result<()> {
 
 /// Makes a sweep and prints its counts. If something is wrong, it prints the seed and the input instead, and returns
 /// false.
-pub fn print_counts<R: Print + Eprint>(rt: &R, alloc: Global, task: Task) -> io::Result<bool> {
-    let samples = task.kind.samples(alloc)?;
-    let (tally, found) = swept(rt, alloc, task, &samples)?;
-    let name = task.kind.name();
+pub fn print_counts<R: Print + Eprint + Files + AllocGlobal>(
+    rt: &R,
+    task: Task,
+) -> io::Result<bool> {
+    let samples = task.kind.samples(rt)?;
+    let (tally, found) = swept(rt, rt.alloc(), task, &samples)?;
+    let name = task.kind.name;
     let Some(found) = found else {
         println!(rt; "{name}: {} inputs, {tally}", task.count)?;
         return Ok(true);

@@ -24,7 +24,7 @@ fn is_refined(rt: &impl Abort, way: &Way) {
     );
 }
 
-const WAYS: &[Way] = &[
+static WAYS: &[Way] = &[
     // equal and not
     (Byte, Compare::Eq, true, true, Large, None),
     (

@@ -1,25 +1,27 @@
-//! A certificate that proves a weaker bound than a generated one, and is accepted.
+//! A certificate that is made of its entries.
 
 use crate::known::{Val, value};
-use crate::making::{certified, checked};
-use crate::same::{holds, same};
+use crate::same::same;
+use crate::small::BY_HAND;
 use bpf_absval::AbsVal;
 use bpf_cert_format::frame::Registers;
 use bpf_cert_format::{Certificate, Entry, Frame, Leaf, Slots, write};
 use bpf_regions::Hook;
-use bpf_text::assemble;
 use std::alloc::Global;
 use std::process::Abort;
 
-/// Two branches that join at slot 3, with different numbers in R0. From there one is shorter than
-/// the other.
-const TEXT: &str =
-    "call 4\njgt r0, 7, +1\nmov r0, 0\njeq r0, 0, +3\nmov r0, 1\nmov r0, 1\nmov r0, 1\nexit";
+/// Two branches that join at slot 3, with different numbers in R0. From there one is shorter than the other: call 4;
+/// jgt r0, 7, +1; mov r0, 0; jeq r0, 0, +3; mov r0, 1; mov r0, 1; mov r0, 1; exit.
+const CODE: [u8; 64] = [
+    0x85, 0, 0, 0, 4, 0, 0, 0, 0x25, 0, 1, 0, 7, 0, 0, 0, 0xb7, 0, 0, 0, 0, 0, 0, 0, 0x15, 0, 3, 0,
+    0, 0, 0, 0, 0xb7, 0, 0, 0, 1, 0, 0, 0, 0xb7, 0, 0, 0, 1, 0, 0, 0, 0xb7, 0, 0, 0, 1, 0, 0, 0,
+    0x95, 0, 0, 0, 0, 0, 0, 0,
+];
 
 /// Entries: the slot, the budget, and what R0 holds in the main function. One for the start, one for
 /// both branches, and one for their ends. For all numbers in R0 the longer branch is possible, so the
 /// budget is one above the verified one.
-const ENTRIES: &[(u16, u32, Val)] = &[
+static ENTRIES: &[(u16, u32, Val)] = &[
     (0, 8, Val::Unset),
     (3, 5, Val::AnyNumber),
     (7, 1, Val::AnyNumber),
@@ -41,28 +43,18 @@ fn add(rt: &impl Abort, alloc: Global, entries: &mut Vec<Leaf>, row: &(u16, u32,
     entries.push(Leaf::read(entry)).ok().expect(rt, "memory");
 }
 
-fn by_hand(rt: &impl Abort, alloc: Global) -> Vec<u8> {
+#[test]
+fn a_certificate_is_made_of_its_entries(rt: HostRuntime) {
+    let alloc = rt.alloc();
     let mut entries = Vec::new(alloc);
     for row in ENTRIES {
-        add(rt, alloc, &mut entries, row);
+        add(&rt, alloc, &mut entries, row);
     }
-    let code = assemble(alloc, TEXT).expect(rt, "code");
+    let code = Vec::from_slice(alloc, &CODE).expect(&rt, "memory");
     let certificate = Certificate::new(Hook::Data, code, entries);
     let written = write(alloc, &certificate).ok();
     drop(certificate);
-    written.expect(rt, "it is written")
-}
-
-#[test]
-fn a_smaller_certificate_is_accepted(rt: HostRuntime) {
-    let (budget, made) = certified(&rt, rt.alloc(), (TEXT, None));
-    let small = by_hand(&rt, rt.alloc());
-    let small_budget = checked(&rt, rt.alloc(), (TEXT, None), Hook::Data, &small);
-    same(
-        &rt,
-        (budget, small_budget),
-        (7, 8),
-        "verified budget, budget",
-    );
-    holds(&rt, small.len() < made.len(), "smaller");
+    let written = written.expect(&rt, "it is written");
+    same(&rt, written.as_slice(), BY_HAND.as_slice(), "written");
+    drop(written);
 }

@@ -70,7 +70,7 @@ fn are_taken(rt: &impl Abort, alloc: Global, steps: &[Step]) {
 }
 
 /// The newest that includes covers.
-const NEWEST: &[Step] = &[
+static NEWEST: &[Step] = &[
     Covers((1, AnyNumber), None),
     Keep((1, Unset), 5, 1),
     Covers((1, AnyNumber), Some(5)),
@@ -83,7 +83,7 @@ const NEWEST: &[Step] = &[
 ];
 
 /// Of 64 the oldest is given up.
-const OLDEST: &[Step] = &[
+static OLDEST: &[Step] = &[
     Keep((1, Unset), 5, 1),
     Keep((1, AnyNumber), 3, 63),
     Covers((1, FrameEnd), Some(5)),

@@ -3,7 +3,7 @@
 use crate::known::Val::{FrameEnd, FrameStart, Pointer, Unset};
 use crate::known::{Val, value};
 use crate::same::{counts, holds, same};
-use crate::small::{CODE, no_maps, small, with_byte};
+use crate::small::{CODE, SMALL, no_maps};
 use bpf_absval::{AbsRegion, AbsVal};
 use bpf_cert_format::{Certificate, Entry, Kind, ReadFault, read, write};
 use bpf_regions::{Hook, Shapes};
@@ -15,7 +15,7 @@ fn is_malformed(alloc: Global, shapes: &Shapes, bytes: &[u8]) -> bool {
 }
 
 /// The first registers of a run.
-const REGISTERS: &[Val] = &[Unset, FrameStart, FrameEnd, Pointer(AbsRegion::Context, 0)];
+static REGISTERS: &[Val] = &[Unset, FrameStart, FrameEnd, Pointer(AbsRegion::Context, 0)];
 
 fn are_held(rt: &impl Abort, registers: &[AbsVal], wanted: &[Val]) {
     for (register, val) in wanted.iter().enumerate() {
@@ -57,30 +57,8 @@ fn read_and_written(rt: &impl Abort, alloc: Global, shapes: &Shapes, bytes: &[u8
     certificate
 }
 
-#[test]
-fn a_certificate_is_read_and_written(rt: HostRuntime) {
-    let alloc = rt.alloc();
-    let shapes = no_maps(&rt, alloc);
-    let mut bytes = small(&rt, alloc);
-    same(&rt, bytes.len(), 216, "bytes");
-    let certificate = read_and_written(&rt, alloc, &shapes, &bytes);
-    is_small(&rt, &certificate);
-    drop(certificate);
-    // No beginning is a certificate, and no longer text.
-    for end in 0..bytes.len() {
-        holds(
-            &rt,
-            is_malformed(alloc, &shapes, &bytes[..end]),
-            "malformed",
-        );
-    }
-    bytes.push(0).expect(&rt, "memory");
-    holds(&rt, is_malformed(alloc, &shapes, &bytes), "malformed");
-    drop(shapes);
-}
-
 /// Bytes at positions, and whether the certificate is malformed with them; otherwise it is read, and written unchanged.
-const BYTES: &[(usize, u8, bool)] = &[
+static BYTES: &[(usize, u8, bool)] = &[
     // the magic, hook 0 and 4
     (0, 0x42, true),
     (4, 0, true),
@@ -104,7 +82,8 @@ const BYTES: &[(usize, u8, bool)] = &[
 
 fn is_limited(rt: &impl Abort, alloc: Global, shapes: &Shapes, row: &(usize, u8, bool)) {
     let (at, byte, wanted) = row;
-    let bytes = with_byte(rt, alloc, *at, *byte);
+    let mut bytes = SMALL;
+    bytes[*at % 216] = *byte;
     let malformed = is_malformed(alloc, shapes, &bytes);
     same(
         rt,
@@ -115,14 +94,28 @@ fn is_limited(rt: &impl Abort, alloc: Global, shapes: &Shapes, row: &(usize, u8,
     if !malformed {
         drop(read_and_written(rt, alloc, shapes, &bytes));
     }
-    drop(bytes);
 }
 
 #[test]
-fn fields_have_limits(rt: HostRuntime) {
-    let shapes = no_maps(&rt, rt.alloc());
+fn a_certificate_is_read_and_written(rt: HostRuntime) {
+    let alloc = rt.alloc();
+    let shapes = no_maps(&rt, alloc);
+    let certificate = read_and_written(&rt, alloc, &shapes, &SMALL);
+    is_small(&rt, &certificate);
+    drop(certificate);
+    // No beginning is a certificate, and no longer text.
+    for end in 0..SMALL.len() {
+        holds(
+            &rt,
+            is_malformed(alloc, &shapes, &SMALL[..end]),
+            "malformed",
+        );
+    }
+    let mut longer = [0; 217];
+    longer[..216].copy_from_slice(&SMALL);
+    holds(&rt, is_malformed(alloc, &shapes, &longer), "malformed");
     for row in BYTES {
-        is_limited(&rt, rt.alloc(), &shapes, row);
+        is_limited(&rt, alloc, &shapes, row);
     }
     drop(shapes);
 }

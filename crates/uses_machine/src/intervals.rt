@@ -78,7 +78,7 @@ fn are_found(rt: &impl Abort, rows: &[Row], what: &str) {
 /// All words.
 const FULL: Ends = (0, MOST);
 
-const ROWS: &[(&str, &[Row])] = &[
+static ROWS: &[(&str, &[Row])] = &[
     (
         "sums and differences",
         &[
@@ -241,7 +241,7 @@ fn signed_are_found(rt: &impl Abort, rows: &[SignedRow], what: &str) {
 /// All words.
 const SIGNED_FULL: SignedEnds = (i64::MIN, i64::MAX);
 
-const SIGNED_ROWS: &[(&str, &[SignedRow])] = &[
+static SIGNED_ROWS: &[(&str, &[SignedRow])] = &[
     (
         "signed sums and differences",
         &[

@@ -77,7 +77,7 @@ pub fn number(known: &Known) -> AbsNum {
 /// An operand, an operation, whether on 64 bits, the other operand, and the result.
 type Row = (Known, AluOp, bool, Known, Known);
 
-const ROWS: &[Row] = &[
+static ROWS: &[Row] = &[
     // sums
     (Byte, AluOp::Add, true, Offset, Small((0, 311), (0, 511))),
     (NearZero, AluOp::Add, true, One(4), Signed(-1, 7)),
@@ -253,7 +253,7 @@ fn changed(number: AbsNum, change: &Change) -> Option<AbsNum> {
 }
 
 /// A number, its change, and the result, if there is one.
-const CHANGES: &[(&str, &[(Known, Change, Option<Known>)])] = &[
+static CHANGES: &[(&str, &[(Known, Change, Option<Known>)])] = &[
     (
         "negated",
         &[

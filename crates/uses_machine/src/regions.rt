@@ -14,48 +14,49 @@ fn shape(entries: u32, words: u32) -> Shape {
     }
 }
 
-/// Whether these shapes can be a program's maps.
-fn are_shapes(rt: &impl Abort, alloc: Global, shapes: &[Shape]) -> bool {
-    Shapes::new(Vec::from_slice(alloc, shapes).expect(rt, "memory")).is_some()
+/// Entries and words of a map, how many such maps there are, and whether they are within the limits.
+static SIZES: &[(u32, u32, usize, bool)] = &[
+    (1, 1, 1, true),
+    (4096, 8, 1, true),
+    (0, 1, 1, false),
+    (1, 0, 1, false),
+    (4097, 1, 1, false),
+    (1, 9, 1, false),
+    (1, 1, 16, true),
+    (1, 1, 17, false),
+];
+
+/// Whether such shapes can be a program's maps.
+fn is_limited(rt: &impl Abort, alloc: Global, row: &(u32, u32, usize, bool)) {
+    let (entries, words, maps, wanted) = row;
+    let shapes = vec![in alloc; shape(*entries, *words); *maps].expect(rt, "memory");
+    let found = Shapes::new(shapes).is_some();
+    same(rt, (*entries, *words, *maps, found), *row, "maps");
 }
 
-/// Entries and words of a map, and whether it is within the limits.
-const SIZES: &[(u32, u32, bool)] = &[
-    (1, 1, true),
-    (4096, 8, true),
-    (0, 1, false),
-    (1, 0, false),
-    (4097, 1, false),
-    (1, 9, false),
-];
+/// A map is found by its number.
+fn is_found(rt: &impl Abort, shapes: &Shapes) {
+    let found = shapes.get(1).expect(rt, "map 1");
+    let lengths = (shapes.len(), shapes.is_empty(), shapes.as_slice().len());
+    same(rt, lengths, (2, false, 2), "shapes");
+    same(
+        rt,
+        (found.entry_bytes(), found.word_count()),
+        (64, 8),
+        "sizes",
+    );
+    holds(rt, shapes.get(2).is_none(), "no map 2");
+}
 
 #[test]
 fn shapes_have_limits(rt: HostRuntime) {
-    for (entries, words, valid) in SIZES {
-        let found = are_shapes(&rt, rt.alloc(), &[shape(*entries, *words)]);
-        same(
-            &rt,
-            (*entries, *words, found),
-            (*entries, *words, *valid),
-            "map",
-        );
+    for row in SIZES {
+        is_limited(&rt, rt.alloc(), row);
     }
-    let found = [
-        are_shapes(&rt, rt.alloc(), &[shape(1, 1); 16]),
-        are_shapes(&rt, rt.alloc(), &[shape(1, 1); 17]),
-    ];
-    same(&rt, found, [true, false], "many maps");
-    // A map is found by its number.
     let two = Vec::from_slice(rt.alloc(), &[shape(4, 1), shape(1, 8)]);
     let shapes = Shapes::new(two.expect(&rt, "memory")).expect(&rt, "two maps");
-    let found = shapes.get(1).expect(&rt, "map 1");
-    let lengths = (shapes.len(), shapes.is_empty(), shapes.as_slice().len());
-    let no_map = shapes.get(2).is_none();
+    is_found(&rt, &shapes);
     drop(shapes);
-    same(&rt, lengths, (2, false, 2), "shapes");
-    let sizes = (found.entry_bytes(), found.word_count());
-    same(&rt, sizes, (64, 8), "sizes");
-    holds(&rt, no_map, "no map 2");
 }
 
 fn is_named(rt: &impl Abort, alloc: Global, hook: Hook, name: &str) {
@@ -63,7 +64,7 @@ fn is_named(rt: &impl Abort, alloc: Global, hook: Hook, name: &str) {
     same(rt, named.as_str(), name, "named");
 }
 
-const HOOKS: &[(Hook, &str)] = &[
+static HOOKS: &[(Hook, &str)] = &[
     (Hook::Association, "assoc"),
     (Hook::Addba, "addba"),
     (Hook::Data, "data"),

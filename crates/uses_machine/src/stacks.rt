@@ -118,7 +118,7 @@ const BEHIND_8: Val = Behind(8, 1);
 const BEHIND_9: Val = Behind(9, 1);
 
 /// What is told of stacks, the first of which is unset.
-const STORIES: &[(&str, &[Line])] = &[
+static STORIES: &[(&str, &[Line])] = &[
     (
         "a write changes one stack",
         &[

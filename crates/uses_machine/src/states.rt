@@ -191,7 +191,7 @@ const BEHIND_9: Val = Behind(9, 3);
 const NO_SLOT: Slot = Slot::Unset;
 
 /// What is told of states: how it begins, and how it goes on.
-const STORIES: &[(&str, &[Line], &[Line])] = &[
+static STORIES: &[(&str, &[Line], &[Line])] = &[
     (
         "a run begins with its frame and context",
         &[],

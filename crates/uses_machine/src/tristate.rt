@@ -80,7 +80,7 @@ const LOW_1: Parts = (0, 0xfffffffffffffffe);
 
 const LOW_40: Parts = (0, 0xffffff0000000000);
 
-const ROWS: &[(&str, &[Row])] = &[
+static ROWS: &[(&str, &[Row])] = &[
     (
         "sum with an unknown carry",
         &[

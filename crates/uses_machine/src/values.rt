@@ -37,7 +37,7 @@ fn are_listed(rt: &impl Abort, rooms: Rooms, wanted: &[Room], what: &str) {
     drop(list);
 }
 
-const RAISED: &[Step] = &[
+static RAISED: &[Step] = &[
     Find(8, None),
     Raise(8, 3),
     Raise(12, 0),
@@ -94,7 +94,7 @@ fn is_included(rt: &impl Abort, alloc: Global, row: &Row) {
 const HERE: Val = Behind(8, 1);
 
 /// A needed label has its distance and its room.
-const LABELS: &[Row] = &[
+static LABELS: &[Row] = &[
     (HERE, Some(3), HERE, Some(3), true),
     (HERE, Some(4), HERE, Some(3), true),
     (HERE, Some(3), HERE, Some(4), false),
@@ -110,7 +110,7 @@ const LABELS: &[Row] = &[
 ];
 
 /// Of these each is included in itself alone, and in what may be unset.
-const KINDS: &[Val] = &[
+static KINDS: &[Val] = &[
     One(7),
     Anywhere,
     Pointer(AbsRegion::Context, 8),
@@ -147,7 +147,7 @@ fn is_of_its_kind(rt: &impl Abort, none: &Rooms, one: AbsVal, kinds: &[Val]) {
 }
 
 /// Slots, and whether the first is included in the other. A slot with a number has all bytes set.
-const SLOTS: &[(Slot, Slot, bool)] = &[
+static SLOTS: &[(Slot, Slot, bool)] = &[
     (Stored(One(7)), Slot::Unset, true),
     (Stored(One(7)), Bytes(0), true),
     (Bytes(0xff), Slot::Unset, true),
