@@ -1,7 +1,6 @@
 //! Time that passes by a clock: its ticks, agreements that end by themselves, with events beside frames and as JSON in
 //! their place, and a thread that reads when asked.
 
-use crate::lab::{Line, WORKERS, lined};
 use crate::live::Chunks;
 use crate::memory::{MANNER, lived, words};
 use crate::same::same;
@@ -43,7 +42,7 @@ impl Clock for Hand {
 }
 
 /// What a clock shows one after the other, and the tick at each.
-const TICKS: &[(u64, u32)] = &[
+static TICKS: &[(u64, u32)] = &[
     (0, 0),
     (1023, 0),
     (1024, 1),
@@ -74,7 +73,7 @@ fn a_tick_is_what_was_not_told_before(rt: HostRuntime) {
 }
 
 /// The lines that come, or none for a while, and the units that have passed then.
-type Step<'a> = (&'a [Line<'a>], u32);
+type Step<'a> = (&'a [u8], u32);
 
 /// Gives texts, or nothing for a while, each when its units have passed by a clock.
 #[derive(Drop)]
@@ -123,7 +122,7 @@ impl Source for Steps<'_> {
         if lines.is_empty() {
             return Ok(Arrival::Nothing);
         }
-        match lined(alloc, lines) {
+        match Vec::from_slice(alloc, lines) {
             Ok(bytes) => Ok(Arrival::Bytes(bytes)),
             Err(_) => Err(FileFault::NoMemory),
         }
@@ -156,44 +155,53 @@ fn passes<R: Threads + Wait + Abort + Sync>(rt: &R, alloc: Global, course: &Cour
             colours: false,
         },
     };
-    for workers in WORKERS {
-        let words = words("lab", *workers, manner, false);
-        let told = lived(rt, alloc, words, Steps::new(steps));
-        tells(rt, alloc, told, (0, printed, ANY), what);
+    for workers in [1, 2, 8] {
+        let told = lived(rt, alloc, words(workers, manner), Steps::new(steps));
+        tells(rt, &told, (0, printed, ANY), what);
+        drop(told);
     }
 }
 
-/// An agreement that ends while nothing comes, data, a frame that is none, data that is dropped, and a station that
-/// leaves.
+/// A station's authentication and its association, and a request for an agreement with a timeout of 10 units from
+/// number 100 on.
+const AGREED: &[u8] = b"frame b000000002000000000102000000000a0200000000011000000001000000\n\
+    frame 0000000002000000000102000000000a020000000001200001000a0000036c6162010482848b96\n\
+    frame d000000002000000000102000000000a020000000001400003000702010a004006\n";
+
+const DATA: &[u8] = b"frame 0801000002000000000102000000000a0200000000ff300068656c6c6f\n";
+
+/// The same and data that the agreement holds, at once; then it ends while nothing comes; data, a frame that is none,
+/// data that is dropped, and a station that leaves.
 const EVENTS: &[Step<'_>] = &[
     (
-        &[
-            Line::Authentication,
-            Line::Association,
-            Line::Agreed,
-            Line::Held,
-        ],
+        b"frame b000000002000000000102000000000a0200000000011000000001000000\n\
+        frame 0000000002000000000102000000000a020000000001200001000a0000036c6162010482848b96\n\
+        frame d000000002000000000102000000000a020000000001400003000702010a004006\n\
+        frame 8801000002000000000102000000000a0200000000ff500600006c617465\n",
         0,
     ),
-    (&[], 10),
-    (&[Line::Data], 0),
-    (&[Line::Text(b"frame 00\nload data drop.hex\n")], 0),
-    (&[Line::Data], 0),
-    (&[Line::Text(b"kick 02000000000a 3\n")], 0),
+    (b"", 10),
+    (DATA, 0),
+    (b"frame 00\nload data drop.hex\n", 0),
+    (DATA, 0),
+    (b"kick 02000000000a 3\n", 0),
 ];
 
-const COURSES: &[Course] = &[
+static COURSES: &[Course] = &[
     (
         "an agreement ends while nothing comes",
         Style::Lines,
         &[
-            (&[Line::Authentication, Line::Association, Line::Agreed], 0),
-            (&[Line::Held], 3),
-            (&[], 9),
-            (&[], 1),
-            (&[], 0),
-            (&[], 4294967295),
-            (&[Line::Text(b"counters\n")], 0),
+            (AGREED, 0),
+            (
+                b"frame 8801000002000000000102000000000a0200000000ff500600006c617465\n",
+                3,
+            ),
+            (b"", 9),
+            (b"", 1),
+            (b"", 0),
+            (b"", 4294967295),
+            (b"counters\n", 0),
         ],
         Text::Answered(
             b"3 send d000000002000000000a0200000000010200000000010000030107000002010a00\n\
@@ -269,15 +277,15 @@ fn three_lines() -> Chunks<'static> {
 #[test]
 fn a_thread_reads_the_same_lines(rt: HostRuntime) {
     let alloc = rt.alloc();
-    let words = words("lab", 2, MANNER, false);
     let input = Direct {
         input: three_lines(),
     };
-    let direct = lived(&rt, alloc, words, input);
+    let direct = lived(&rt, alloc, words(2, MANNER), input);
     let hand = Hand::at(0);
     let input = Timed::start(&rt, alloc, &hand, three_lines()).expect(&rt, "a thread");
-    let timed = lived(&rt, alloc, words, input);
-    let out = direct.out.as_slice();
-    let wanted = (direct.status, Text::All(out), ANY);
-    tells(&rt, alloc, timed, wanted, "the same by a thread");
+    let timed = lived(&rt, alloc, words(2, MANNER), input);
+    let wanted = (direct.status, Text::All(direct.out.as_slice()), ANY);
+    tells(&rt, &timed, wanted, "the same by a thread");
+    drop(timed);
+    drop(direct);
 }

@@ -1,8 +1,10 @@
 //! Watchers that are told of each event, and workers that run concurrently.
 
-use crate::lab::{Line, lined};
-use crate::memory::{MANNER, ran, words};
+use crate::lab::JOINING;
+use crate::memory::{MANNER, lines_alone, run_to, told_of, words};
 use crate::same::same;
+use crate::told::Text::{self, Answered};
+use crate::told::{ANY, tells};
 use apd_run::{Gate, Watcher};
 use std::alloc::Global;
 use std::process::Abort;
@@ -66,14 +68,13 @@ impl Watcher for &Sums {
     }
 }
 
-/// A script, whether its first two events are to meet, by how many workers it runs, and what is added up.
-type Row = (&'static [Line<'static>], bool, u8, [u64; 4]);
+/// A script, whether its first two events are to meet, by how many workers it runs, what is added up, and what is
+/// printed.
+type Row = (&'static [u8], bool, u8, [u64; 4], Text<'static>);
 
 /// Fails if a watcher is told anything else.
 fn adds_up<R: Threads + Wait + Abort + Sync>(rt: &R, alloc: Global, row: &Row) {
-    let (lines, meets, workers, wanted) = *row;
-    let script = lined(alloc, lines).expect(rt, "memory");
-    let files = [("script", script.as_slice())];
+    let (script, meets, workers, wanted, printed) = *row;
     let sums = Sums {
         lines: AtomicU64::new(0),
         begun: AtomicU64::new(0),
@@ -81,14 +82,11 @@ fn adds_up<R: Threads + Wait + Abort + Sync>(rt: &R, alloc: Global, row: &Row) {
         met: AtomicU64::new(0),
         meets,
     };
-    let told = ran(
-        rt,
-        alloc,
-        &files,
-        words("lab", workers, MANNER, false),
-        &sums,
-    );
-    same(rt, told.status, 0, "the status");
+    let page = lines_alone(Vec::new(alloc));
+    let asked = (words(workers, MANNER), &sums);
+    let (page, err, status) = run_to(rt, alloc, script, asked, page);
+    let told = told_of(page, err, status);
+    tells(rt, &told, (0, printed, ANY), "a watched run");
     drop(told);
     same(
         rt,
@@ -100,22 +98,27 @@ fn adds_up<R: Threads + Wait + Abort + Sync>(rt: &R, alloc: Global, row: &Row) {
 
 /// The sum of the lines of its events is 40: lines 1, 2 and 5 concern one shard each, and all eight tell of the tick
 /// of line 4.
-const LONG: &[Line<'_>] = &[
-    Line::Authentication,
-    Line::Association,
-    Line::Text(b"wait\ntick 1\nkick 02000000000a 1\nunload data\n# end\n"),
-];
+const LONG: &[u8] = b"frame b000000002000000000102000000000a0200000000011000000001000000\n\
+    frame 0000000002000000000102000000000a020000000001200001000a0000036c6162010482848b96\n\
+    wait\ntick 1\nkick 02000000000a 1\nunload data\n# end\n";
 
 /// Events of two shards.
-const SHORT: &[Line<'_>] = &[Line::Authentication, Line::OtherAuthentication];
+const SHORT: &[u8] = b"frame b000000002000000000102000000000a0200000000011000000001000000\n\
+    frame b000000002000000000102000000000b0200000000011000000001000000\n";
 
-const ROWS: &[Row] = &[
-    (LONG, false, 1, [6, 40, 40, 0]),
-    (LONG, false, 2, [6, 40, 40, 0]),
-    (LONG, false, 8, [6, 40, 40, 0]),
-    (SHORT, true, 1, [2, 3, 3, 0]),
-    (SHORT, true, 2, [2, 3, 3, 1]),
-    (SHORT, true, 8, [2, 3, 3, 1]),
+const TOTALS: Text<'static> = Answered(b"total events 2 sent 2 up 0 dropped 0 notes 0\n");
+
+static ROWS: &[Row] = &[
+    (LONG, false, 1, [6, 40, 40, 0], ANY),
+    (LONG, false, 2, [6, 40, 40, 0], ANY),
+    (LONG, false, 8, [6, 40, 40, 0], ANY),
+    (SHORT, true, 1, [2, 3, 3, 0], ANY),
+    (SHORT, true, 2, [2, 3, 3, 1], ANY),
+    (SHORT, true, 8, [2, 3, 3, 1], ANY),
+    // none is one, and more workers than eight are eight
+    (JOINING, false, 0, [2, 3, 3, 0], TOTALS),
+    (JOINING, false, 9, [2, 3, 3, 0], TOTALS),
+    (JOINING, false, 255, [2, 3, 3, 0], TOTALS),
 ];
 
 #[test]

@@ -1,10 +1,10 @@
-//! Files and frames of the greatest length and longer ones, files without an end, lack of memory, and writers that
-//! fail.
+//! Files of the greatest length and longer ones, and such as come in parts; files without an end, lack of memory, and
+//! writers that fail.
 
 use crate::same::same;
-use crate::shelf::shelf;
+use crate::shelf::{CAPTURE, CERTIFICATE, FILES};
 use crate::told::Text::{All, Start};
-use crate::told::{ANY, Row, Told, Wanted, answer, does, repeated, says, tells};
+use crate::told::{ANY, Told, Wanted, does, folder_of, tells};
 use crate::writing::Narrow;
 use apd_files::{FileFault, Files};
 use apd_program::apd_main;
@@ -15,212 +15,255 @@ use std::process::Abort;
 /// The most bytes of a block.
 const BLOCK: usize = 1 << 16;
 
-/// A text so many times and a text behind it, with spaces after them up to a size, which are the file `long`; in
-/// blocks of how many bytes it is read, and a command.
+/// A text so many times and a text behind it, cut at a size or with spaces after them up to it, if it isn't 0: they are
+/// the file `long`; in blocks of how many bytes files are read; and a command's words, with what is wanted of it.
 type Long = (
-    &'static [u8],
+    (&'static [u8], usize, &'static [u8], usize),
     usize,
-    &'static [u8],
-    usize,
-    usize,
-    Row<'static>,
+    &'static [&'static str],
+    Wanted<'static, 'static>,
 );
 
 /// Fails if a command with such a file does anything else.
 fn reads(rt: &impl Abort, alloc: Global, row: &Long) {
-    let (text, times, rest, size, step, asked) = *row;
+    let ((text, times, rest, size), step, words, wanted) = *row;
     let mut long = text.repeat(alloc, times).expect(rt, "memory");
     long.extend_from_slice(rest).expect(rt, "memory");
-    let size = size.max(long.len());
-    long.resize(size, b' ').expect(rt, "memory");
-    let files = [("long", long.as_slice())];
-    says(rt, shelf(alloc, &files, step), &asked);
+    if size != 0 {
+        long.resize(size, b' ').expect(rt, "memory");
+    }
+    let mut files = folder_of(alloc, FILES, ("long", long.as_slice()), step);
+    does(rt, alloc, &mut files, words, wanted);
+    drop(files);
 }
 
 /// A slot.
 const SLOT: &[u8] = b"b700000000000000\n";
 
-const VERIFY: &str = "apd verify data long";
+const VERIFY: &[&str] = &["apd", "verify", "data", "long"];
 
-const CODED: &[Long] = &[
+const TEXT: &[u8] = b"mov r0, 1\nexit\n";
+
+const CODE: &[u8] = b"b700000001000000\n9500000000000000\n";
+
+const CONFIG: &[u8] = b"bssid = \"020000000001\"\nssid = \"lab\"\nrates = \"82848b96\"\ndraw = 0\n";
+
+static LONGS: &[Long] = &[
     // code of 16385 slots is refused
     (
-        SLOT,
-        16385,
-        b"",
-        0,
+        (SLOT, 16385, b"", 0),
         7,
+        &["apd", "verify", "assoc", "long"],
         (
-            "apd verify assoc long",
-            (
-                1,
-                All(b"fault 3 at 0\n"),
-                Start(b"apd: slot 0: the code is too long; "),
-            ),
-            b"",
+            1,
+            All(b"fault 3 at 0\n"),
+            Start(b"apd: slot 0: the code is too long; "),
         ),
     ),
     // all digits of too long code are read
     (
-        SLOT,
-        20000,
-        b"",
-        0,
+        (SLOT, 20000, b"", 0),
         BLOCK,
-        (VERIFY, (1, All(b"fault 3 at 0\n"), ANY), b""),
+        VERIFY,
+        (1, All(b"fault 3 at 0\n"), ANY),
     ),
     (
-        SLOT,
-        20000,
-        b"b7",
-        0,
+        (SLOT, 20000, b"b7", 0),
         BLOCK,
-        (VERIFY, (1, All(b"fault 1 at 0\n"), ANY), b""),
+        VERIFY,
+        (1, All(b"fault 1 at 0\n"), ANY),
     ),
     (
-        SLOT,
-        20000,
-        b"b7 g",
-        0,
+        (SLOT, 20000, b"b7 g", 0),
         BLOCK,
+        VERIFY,
         (
-            VERIFY,
-            (
-                2,
-                All(b""),
-                Start(b"apd: long: line 20001: `g` is no hex digit"),
-            ),
-            b"",
+            2,
+            All(b""),
+            Start(b"apd: long: line 20001: `g` is no hex digit"),
         ),
     ),
     (
-        SLOT,
-        20000,
-        b"b",
-        0,
+        (SLOT, 20000, b"b", 0),
         BLOCK,
+        VERIFY,
         (
-            VERIFY,
-            (
-                2,
-                All(b""),
-                All(b"apd: long: an odd number of hex digits\n"),
-            ),
-            b"",
+            2,
+            All(b""),
+            All(b"apd: long: an odd number of hex digits\n"),
         ),
     ),
     // white space is no code
     (
-        b"\n\t \r\n",
-        1,
-        b"",
-        70000,
+        (b"\n\t \r\n", 1, b"", 70000),
         BLOCK,
-        (VERIFY, (1, All(b"fault 2 at 0\n"), ANY), b""),
+        VERIFY,
+        (1, All(b"fault 2 at 0\n"), ANY),
     ),
-    // a directory is told
+    // files of each kind may come in parts
     (
-        b"",
-        0,
-        b"",
-        0,
-        BLOCK,
+        (TEXT, 1, b"", 0),
+        7,
+        &["apd", "asm", "long"],
+        (0, All(CODE), All(b"")),
+    ),
+    (
+        (CODE, 1, b"", 0),
+        7,
+        &["apd", "disasm", "long"],
+        (0, All(TEXT), All(b"")),
+    ),
+    (
+        (CERTIFICATE, 1, b"", 0),
+        7,
+        &["apd", "check", "data", "one.hex", "long", "--work", "160"],
+        (0, ANY, ANY),
+    ),
+    (
+        (CERTIFICATE, 1, b"", 0),
+        7,
+        &["apd", "check", "data", "one.hex", "long", "--work", "159"],
+        (1, All(b"certificate 36\n"), ANY),
+    ),
+    (
+        (b"bssid = \"0200000000\"\n", 1, b"", 0),
+        7,
+        &["apd", "verify", "data", "one.hex", "--config", "long"],
         (
-            "apd verify data folder",
-            (
-                2,
-                All(b""),
-                All(b"apd: cannot read folder: it is a directory\n"),
-            ),
-            b"",
+            2,
+            All(b""),
+            All(b"apd: long: line 1: `bssid` must be 12 hex digits\n"),
         ),
+    ),
+    (
+        (b"frme 00", 1, b"", 0),
+        7,
+        &["apd", "test", "long"],
+        (
+            2,
+            All(b""),
+            All(b"apd: long:1: unknown word `frme` (did you mean `frame`?)\n"),
+        ),
+    ),
+    // without a clock there are no figures
+    (
+        (CAPTURE, 1, b"", 0),
+        7,
+        &[
+            "apd",
+            "eval",
+            "assoc",
+            "refuses.hex",
+            "long",
+            "--config",
+            "lab.toml",
+            "--repeat",
+            "1000",
+        ],
+        (
+            0,
+            All(
+                b"packet  station            verdict       steps\n\
+                2       02:00:00:00:00:0a  refuse 37     2\n\
+                judged 1 of 6 packets: admit 0, refuse 1; steps at most 2 of budget 2\n\
+                not judged: 5 no association request\n\
+                repeated 1000 times: no clock tells how long a run takes\n",
+            ),
+            All(b""),
+        ),
+    ),
+    (
+        (CAPTURE, 1, b"", 200),
+        7,
+        &[
+            "apd", "eval", "data", "one.hex", "long", "--config", "lab.toml", "--repeat", "2",
+        ],
+        (
+            2,
+            All(
+                b"packet  station            verdict       steps\n\
+                3       02:00:00:00:00:0a  drop          2\n\
+                judged 1 of 3 packets: pass 0 (0 marked), drop 1; steps at most 2 of budget 2\n\
+                not judged: 2 not data\n\
+                repeated 2 times: no clock tells how long a run takes\n",
+            ),
+            All(b"apd: long: the file is cut after 3 records; what is before that was judged\n"),
+        ),
+    ),
+    // a file that is not written is a fault
+    (
+        (TEXT, 1, b"", 0),
+        7,
+        &["apd", "asm", "long", "-o", "other"],
+        (
+            2,
+            All(b""),
+            All(b"apd: cannot write other: it is not allowed\n"),
+        ),
+    ),
+    // a script is run by threads alone
+    (
+        (b"", 0, b"", 0),
+        7,
+        &["apd", "run", "lab.toml", "lab.script"],
+        (2, All(b""), All(b"apd: a script is run by threads alone\n")),
     ),
 ];
 
 #[test]
-fn code_of_any_length_is_read_to_its_end(rt: HostRuntime) {
-    for row in CODED {
+fn files_are_read_to_their_end(rt: HostRuntime) {
+    for row in LONGS {
         reads(&rt, rt.alloc(), row);
     }
 }
 
-const TEXT: &[u8] = b"mov r0, 1\nexit\n";
-
-const CONFIG: &[u8] = b"bssid = \"020000000001\"\nssid = \"lab\"\nrates = \"82848b96\"\ndraw = 0\n";
-
-const SPACED: &[Long] = &[
+static GREATEST: &[Long] = &[
     // code of any length is read
     (
-        b"b700000001000000\n9500000000000000\n",
-        1,
-        b"",
-        16777217,
+        (CODE, 1, b"", 16777217),
         BLOCK,
-        (VERIFY, (0, All(b"accepted budget 2\n"), ANY), b""),
+        VERIFY,
+        (0, All(b"accepted budget 2\n"), ANY),
     ),
     // texts of 16 mebibytes are read, and no longer ones
     (
-        TEXT,
-        1,
-        b"",
-        16777216,
+        (TEXT, 1, b"", 16777216),
         BLOCK,
-        (
-            "apd asm long",
-            (0, All(b"b700000001000000\n9500000000000000\n"), All(b"")),
-            b"",
-        ),
+        &["apd", "asm", "long"],
+        (0, All(CODE), All(b"")),
     ),
     (
-        TEXT,
-        1,
-        b"",
-        16777217,
+        (TEXT, 1, b"", 16777217),
         BLOCK,
+        &["apd", "asm", "long"],
         (
-            "apd asm long",
-            (
-                2,
-                All(b""),
-                All(b"apd: cannot read long: it has more than 16777216 bytes\n"),
-            ),
-            b"",
+            2,
+            All(b""),
+            All(b"apd: cannot read long: it has more than 16777216 bytes\n"),
         ),
     ),
     // configurations of a mebibyte are read, and no longer ones
     (
-        CONFIG,
-        1,
-        b"",
-        1048576,
+        (CONFIG, 1, b"", 1048576),
         BLOCK,
-        (
-            "apd verify data one.hex --config long",
-            (0, All(b"accepted budget 2\n"), All(b"")),
-            b"",
-        ),
+        &["apd", "verify", "data", "one.hex", "--config", "long"],
+        (0, All(b"accepted budget 2\n"), All(b"")),
     ),
     (
-        CONFIG,
-        1,
-        b"",
-        1048577,
+        (CONFIG, 1, b"", 1048577),
         BLOCK,
+        &["apd", "verify", "data", "one.hex", "--config", "long"],
         (
-            "apd verify data one.hex --config long",
-            (
-                2,
-                All(b""),
-                All(b"apd: cannot read long: it has more than 1048576 bytes\n"),
-            ),
-            b"",
+            2,
+            All(b""),
+            All(b"apd: cannot read long: it has more than 1048576 bytes\n"),
         ),
     ),
 ];
 
 #[test]
 fn files_of_the_greatest_length_are_read(rt: HostRuntime) {
-    for row in SPACED {
+    for row in GREATEST {
         reads(&rt, rt.alloc(), row);
     }
 }
@@ -251,28 +294,32 @@ impl Files for Endless {
     }
 }
 
-/// A byte, how many blocks are read, a command, and what is wanted.
-type Read = (Option<u8>, u32, &'static str, Wanted<'static, 'static>);
+/// A byte, how many blocks are read, a command's words, and what is wanted.
+type Read = (
+    Option<u8>,
+    u32,
+    &'static [&'static str],
+    Wanted<'static, 'static>,
+);
 
 /// Fails if a command reads more or less of such a file, or tells anything else.
 fn ends(rt: &impl Abort, alloc: Global, row: &Read) {
-    let (byte, blocks, line, wanted) = *row;
+    let (byte, blocks, words, wanted) = *row;
     let mut files = Endless {
         alloc,
         byte,
         blocks: 0,
     };
-    let told = answer(rt, alloc, line, &mut files);
-    tells(rt, alloc, told, wanted, "a file without end");
+    does(rt, alloc, &mut files, words, wanted);
     same(rt, files.blocks, blocks, "blocks");
 }
 
-const ENDLESS: &[Read] = &[
+static ENDLESS: &[Read] = &[
     // a command ends at the first byte that is no digit
     (
         Some(0),
         1,
-        "apd verify data zero",
+        &["apd", "verify", "data", "zero"],
         (
             2,
             All(b""),
@@ -283,7 +330,7 @@ const ENDLESS: &[Read] = &[
     (
         Some(b' '),
         257,
-        "apd asm text",
+        &["apd", "asm", "text"],
         (
             2,
             All(b""),
@@ -294,14 +341,14 @@ const ENDLESS: &[Read] = &[
     (
         None,
         1,
-        "apd verify data one.hex",
+        &["apd", "verify", "data", "one.hex"],
         (3, All(b""), All(b"apd: out of memory\n")),
     ),
     // without words it tells how it is used
     (
         None,
         0,
-        "",
+        &[],
         (2, All(b""), Start(b"A programmable 802.11 access point")),
     ),
 ];
@@ -313,28 +360,12 @@ fn a_file_without_end_is_read_as_far_as_it_matters(rt: HostRuntime) {
     }
 }
 
-/// Fails if the program is traced otherwise on a frame of `size` bytes.
-fn traces(rt: &impl Abort, alloc: Global, size: usize, wanted: Wanted<'_, '_>) {
-    let digits = repeated(rt, alloc, "5a", size);
-    let parts = ["apd trace data one.hex", digits.as_str()];
-    let line = parts.join(alloc, " ").expect(rt, "memory");
-    does(rt, shelf(alloc, &[], 7), line.as_str(), wanted, b"");
-}
-
-#[test]
-fn traces_on_frames_of_at_most_2400_bytes(rt: HostRuntime) {
-    let alloc = rt.alloc();
-    traces(&rt, alloc, 2400, (0, ANY, All(b"")));
-    let why = b"apd: FRAME: more than 2400 bytes\n";
-    traces(&rt, alloc, 2401, (2, ANY, All(why)));
-}
-
 /// The result of `verify` if the output takes at most `room` bytes.
 fn verified_in(alloc: Global, room: usize) -> Told {
     let mut out = Narrow::new(alloc, room, ErrorKind::StorageFull);
     let mut err = Vec::new(alloc);
     let words = ["apd", "verify", "data", "one.hex"];
-    let mut files = shelf(alloc, &[], 7);
+    let mut files = folder_of(alloc, FILES, ("", b""), 7);
     let status = apd_main(alloc, &words, &mut files, &mut out, &mut err);
     drop(files);
     let out = out.taken;
@@ -354,6 +385,7 @@ fn leaves_a_beginning_where_a_write_fails(rt: HostRuntime) {
         } else {
             (0, b"".as_slice())
         };
-        tells(&rt, alloc, told, (status, All(begun), All(err)), "a room");
+        tells(&rt, &told, (status, All(begun), All(err)), "a room");
+        drop(told);
     }
 }

@@ -1,26 +1,17 @@
-//! Tests of what a session can't show of `apd`: lack of memory, writers that fail, code, frames and files of the
-//! greatest length; faults of configurations and times of captures, by rows; well-formed and malformed scripts; the
-//! lines of a run and their order; files of cases for policies; verdicts on a capture; whole runs by several workers
-//! with files in memory, and what they tell; and that each program on the pages on refusals is refused with its number,
-//! and admitted after the fix. The session of `uses_apd` shows everything else.
+//! Tests of what a session can't show of `apd`: lack of memory, readers and writers that fail, files of the greatest
+//! length and such as come in parts; the values of a configuration, a script and a capture; clocks, gates and watchers
+//! that a test sets; and that each program on the pages on refusals is refused with its number, and admitted after the
+//! fix. The session of `uses_apd` shows everything else.
 #![tactic(auto)]
 
 #[cfg(test)]
 mod captures;
 #[cfg(test)]
-mod cases;
-#[cfg(test)]
 mod clocks;
 #[cfg(test)]
 mod configuration;
 #[cfg(test)]
-mod counted;
-#[cfg(test)]
 mod echo;
-#[cfg(test)]
-mod evaluating;
-#[cfg(test)]
-mod faults;
 #[cfg(test)]
 mod gates;
 #[cfg(test)]
@@ -30,13 +21,9 @@ mod lab;
 #[cfg(test)]
 mod lengths;
 #[cfg(test)]
-mod lines;
-#[cfg(test)]
 mod live;
 #[cfg(test)]
 mod memory;
-#[cfg(test)]
-mod options;
 #[cfg(test)]
 mod recording;
 #[cfg(test)]
@@ -47,8 +34,6 @@ mod repeating;
 mod running;
 #[cfg(test)]
 mod same;
-#[cfg(test)]
-mod scripts;
 #[cfg(test)]
 mod shelf;
 #[cfg(test)]

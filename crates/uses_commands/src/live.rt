@@ -1,13 +1,11 @@
 //! Lines that come while the access point runs, in chunks of any length.
 
-use crate::lab::{Line, MARKED, MARKING, lined};
-use crate::memory::{MANNER, STRICT, lines_alone, live_to, lived, words};
+use crate::memory::{MANNER, lines_alone, live_to, lived, words};
 use crate::same::same;
 use crate::told::Text::{All, Answered, Idle};
-use crate::told::{ANY, Wanted, repeated, tells};
+use crate::told::{ANY, Wanted, joined, tells};
 use crate::writing::Narrow;
-use apd_driver::{Direct, Manner};
-use apd_run::Streams;
+use apd_driver::Direct;
 use std::alloc::Global;
 use std::io::{self, Error, ErrorKind, Read, Write};
 use std::process::Abort;
@@ -36,54 +34,39 @@ impl Read for Chunks<'_> {
     }
 }
 
-/// The path of a configuration, in which manner a text is run and by how many workers, each with the length of the
-/// chunks in which it comes, and whether a read fails at its end.
-#[derive(Drop)]
-struct Mode {
-    what: &'static str,
-    config: &'static str,
-    manner: Manner,
-    by: &'static [(u8, usize)],
-    fails: bool,
-}
+/// By how many workers a text is run, each with the length of the chunks in which it comes.
+type By = &'static [(u8, usize)];
 
-/// Fails where a text is answered otherwise.
-fn chats<R: Threads + Wait + Abort + Sync>(
-    rt: &R,
-    alloc: Global,
-    mode: &Mode,
-    text: &[u8],
-    wanted: Wanted<'_, '_>,
-) {
-    for (workers, step) in mode.by {
-        let input = Direct {
-            input: Chunks {
-                left: text,
-                step: *step,
-                fails: mode.fails,
-            },
-        };
-        let words = words(mode.config, *workers, mode.manner, false);
-        let told = lived(rt, alloc, words, input);
-        tells(rt, alloc, told, wanted, mode.what);
-    }
-}
-
-/// How a text is run, its lines, and what is wanted.
-type Talk = (Mode, &'static [Line<'static>], Wanted<'static, 'static>);
+/// What a text shows, how it comes, and whether a read fails at its end; its beginning, how many letters follow, and
+/// its end; and what is wanted of it.
+type Talk = (
+    &'static str,
+    (By, bool),
+    (&'static [u8], usize, &'static [u8]),
+    Wanted<'static, 'static>,
+);
 
 /// Fails where a text is answered otherwise.
 fn talks<R: Threads + Wait + Abort + Sync>(rt: &R, alloc: Global, talk: &Talk) {
-    let (mode, lines, wanted) = talk;
-    let text = lined(alloc, lines).expect(rt, "memory");
-    chats(rt, alloc, mode, text.as_slice(), *wanted);
+    let (what, (by, fails), (begun, count, end), wanted) = *talk;
+    let letters = [b'a'].repeat(alloc, count).expect(rt, "memory");
+    let text = joined(rt, alloc, &[begun, letters.as_slice(), end]);
+    drop(letters);
+    for (workers, step) in by {
+        let input = Direct {
+            input: Chunks {
+                left: text.as_slice(),
+                step: *step,
+                fails,
+            },
+        };
+        let told = lived(rt, alloc, words(*workers, MANNER), input);
+        tells(rt, &told, wanted, what);
+        drop(told);
+    }
 }
 
-const BY_ONE: &[(u8, usize)] = &[(1, 1), (1, 7), (1, 65536)];
-
-const BY_TWO: &[(u8, usize)] = &[(2, 1), (2, 7), (2, 65536)];
-
-const BY_ALL: &[(u8, usize)] = &[
+const BY_ALL: By = &[
     (1, 1),
     (1, 7),
     (1, 65536),
@@ -95,26 +78,27 @@ const BY_ALL: &[(u8, usize)] = &[
     (8, 65536),
 ];
 
+const LONG: By = &[(1, 100), (1, 8192), (1, 65536)];
+
 const ONE: &[u8] = b"1 error unknown word `frme` (did you mean `frame`?)\n";
+
+const TOO_LONG: &[u8] = b"1 error the line has more than 8192 bytes\n";
 
 const CANNOT: &[u8] = b"apd: cannot read the input, or cannot write\n";
 
-const TALKS: &[Talk] = &[
+static TALKS: &[Talk] = &[
     (
-        Mode {
-            what: "chunks of any length are answered alike",
-            config: "lab",
-            manner: MANNER,
-            by: BY_TWO,
-            fails: false,
-        },
-        &[
-            Line::Authentication,
-            Line::Association,
-            Line::Text(b"\n# nothing\nfrme 00\nload data mark.hex\nwait\n"),
-            Line::Data,
-            Line::Text(b"tick\nframe 0801000002000000000102000000000a0200000000ff300068656c6c6f"),
-        ],
+        "chunks of any length are answered alike",
+        (BY_ALL, false),
+        (
+            b"frame b000000002000000000102000000000a0200000000011000000001000000\n\
+            frame 0000000002000000000102000000000a020000000001200001000a0000036c6162010482848b96\n\
+            \n# nothing\nfrme 00\nload data mark.hex\nwait\n\
+            frame 0801000002000000000102000000000a0200000000ff300068656c6c6f\n\
+            tick\nframe 0801000002000000000102000000000a0200000000ff300068656c6c6f",
+            0,
+            b"",
+        ),
         (
             1,
             Answered(
@@ -127,127 +111,28 @@ const TALKS: &[Talk] = &[
         ),
     ),
     (
-        Mode {
-            what: "a script is answered as by a run",
-            config: "lab",
-            manner: MANNER,
-            by: BY_TWO,
-            fails: false,
-        },
-        MARKING,
-        (0, Answered(MARKED), ANY),
-    ),
-    (
-        Mode {
-            what: "a malformed line ends no run that is not strict",
-            config: "lab",
-            manner: MANNER,
-            by: BY_TWO,
-            fails: false,
-        },
-        &[Line::Text(b"frme\nwait\nfrme\n")],
-        (
-            1,
-            Idle(
-                b"1 error unknown word `frme` (did you mean `frame`?)\n\
-                3 error unknown word `frme` (did you mean `frame`?)\n",
-            ),
-            ANY,
-        ),
-    ),
-    (
-        Mode {
-            what: "a malformed line ends a strict run",
-            config: "lab",
-            manner: STRICT,
-            by: BY_TWO,
-            fails: false,
-        },
-        &[Line::Text(b"frme\nwait\nfrme\n")],
-        (1, Idle(ONE), ANY),
-    ),
-    (
-        Mode {
-            what: "a failed read ends the run",
-            config: "lab",
-            manner: MANNER,
-            by: &[(2, 65536)],
-            fails: true,
-        },
-        &[Line::Text(b"frme\nfrme")],
+        "a failed read ends the run",
+        (&[(2, 65536)], true),
+        (b"frme\nfrme", 0, b""),
         (2, All(ONE), All(CANNOT)),
     ),
     (
-        Mode {
-            what: "questions are answered by what came before",
-            config: "lab",
-            manner: MANNER,
-            by: BY_ALL,
-            fails: false,
-        },
-        &[
-            Line::Authentication,
-            Line::Association,
-            Line::Text(b"stations\n# nothing\nload data mark.hex\nprograms\n\n"),
-            Line::Data,
-            Line::Text(b"counters\n"),
-        ],
-        (
-            0,
-            Answered(
-                b"3 station 02000000000a associated 2\n3 end 1\n5 loaded 2\n\
-                6 program data budget 2 runs 0 most 0 steps 0 pass 0 drop 0\n6 end 1\n\
-                8 up 02000000000a 0200000000ff - 3 5 68656c6c6f\n\
-                9 events 3 sent 2 up 1 dropped 0 notes 0\n\
-                total events 3 sent 2 up 1 dropped 0 notes 0\n",
-            ),
-            ANY,
-        ),
+        "the longest line is read",
+        (LONG, false),
+        (b"#", 8191, b"\nwait\n"),
+        (0, Idle(b""), ANY),
     ),
     (
-        Mode {
-            what: "a dump lists entries that are not all 0",
-            config: "maps",
-            manner: MANNER,
-            by: BY_TWO,
-            fails: false,
-        },
-        &[Line::Text(
-            b"dump 0\nstore 0 0 1 7\nstore 0 2 0 18446744073709551615\ndump 0\ndump 1\ndump 2\n",
-        )],
-        (
-            1,
-            Idle(
-                b"1 map 0 shared 3 entries 2 words width 8\n1 end 0\n\
-                4 map 0 shared 3 entries 2 words width 8\n4 0 0 7\n\
-                4 2 18446744073709551615 0\n4 end 2\n\
-                5 map 1 worker 1 entries 1 words width 4\n5 end 0\n\
-                6 error map 2: the configuration has 2\n",
-            ),
-            ANY,
-        ),
+        "a longer line has one answer",
+        (LONG, false),
+        (b"#", 8192, b"\nwait\n"),
+        (1, Idle(TOO_LONG), ANY),
     ),
     (
-        Mode {
-            what: "help lists all lines",
-            config: "lab",
-            manner: MANNER,
-            by: BY_ONE,
-            fails: false,
-        },
-        &[Line::Text(b"help\n")],
-        (
-            0,
-            Idle(
-                b"1 help frame HEX\n1 help tick N\n1 help kick ADDRESS REASON\n\
-                1 help close ADDRESS TID\n1 help load HOOK FILE\n1 help unload HOOK\n\
-                1 help adopt HOOK FILE CERTIFICATE\n1 help store MAP INDEX WORD VALUE\n\
-                1 help read MAP INDEX WORD\n1 help sum MAP INDEX WORD\n1 help wait\n\
-                1 help help\n1 help stations\n1 help agreements\n1 help programs\n\
-                1 help counters\n1 help dump MAP\n1 help quit\n1 end 18\n",
-            ),
-            ANY,
-        ),
+        "a line in many parts has one answer",
+        (LONG, false),
+        (b"#", 80000, b"\nwait\n"),
+        (1, Idle(TOO_LONG), ANY),
     ),
 ];
 
@@ -255,119 +140,6 @@ const TALKS: &[Talk] = &[
 fn texts_are_answered_in_chunks_of_any_length(rt: HostRuntime) {
     for talk in TALKS {
         talks(&rt, rt.alloc(), talk);
-    }
-}
-
-/// Texts without events, how many letters and a line `wait` follow if any do, their answers and the status.
-const TEXTS: &[(&[u8], usize, &[u8], u8)] = &[
-    (b"", 0, b"", 0),
-    (b"\n\n", 0, b"", 0),
-    (b"wait\n", 0, b"", 0),
-    (b"wait", 0, b"", 0),
-    (b"quit\nfrme\n", 0, b"", 0),
-    (b" quit ", 0, b"", 0),
-    (b"quit now\nwait\n", 0, b"1 error unknown word `quit`\n", 1),
-    (b"wait\n\xc3", 0, b"2 error not UTF-8\n", 1),
-    (b"\xc3\n", 0, b"1 error not UTF-8\n", 1),
-    (b"a\0\n", 0, b"1 error unknown word `a\\0`\n", 1),
-    (b"wait\r\n\n", 0, b"1 error a carriage return\n", 1),
-    (b"load data absent\n", 0, b"1 unreadable\n", 0),
-    (
-        b"counters\n",
-        0,
-        b"1 events 0 sent 0 up 0 dropped 0 notes 0\n",
-        0,
-    ),
-    (
-        b"stations\n agreements \nprograms",
-        0,
-        b"1 end 0\n2 end 0\n3 end 0\n",
-        0,
-    ),
-    (
-        b"countrs\n",
-        0,
-        b"1 error unknown word `countrs` (did you mean `counters`?)\n",
-        1,
-    ),
-    (b"counters 1\n", 0, b"1 error `counters` takes nothing\n", 1),
-    (b"dump\n", 0, b"1 error `dump` takes MAP\n", 1),
-    (
-        b"dump x\n",
-        0,
-        b"1 error dump: `x` is no number of a map\n",
-        1,
-    ),
-    (
-        b"dump 0\n",
-        0,
-        b"1 error map 0: the configuration has none\n",
-        1,
-    ),
-    (
-        b"frme\ncounters\nfrme\n",
-        0,
-        b"1 error unknown word `frme` (did you mean `frame`?)\n\
-        2 events 0 sent 0 up 0 dropped 0 notes 0\n\
-        3 error unknown word `frme` (did you mean `frame`?)\n",
-        1,
-    ),
-    (
-        b"frame 0\nwait\nfrme",
-        0,
-        b"1 error frame: an odd number of hex digits\n\
-        3 error unknown word `frme` (did you mean `frame`?)\n",
-        1,
-    ),
-    (b"#", 8191, b"", 0),
-    (
-        b"#",
-        8192,
-        b"1 error the line has more than 8192 bytes\n",
-        1,
-    ),
-    (
-        b"#",
-        80000,
-        b"1 error the line has more than 8192 bytes\n",
-        1,
-    ),
-];
-
-const LONG: &[(u8, usize)] = &[(1, 100), (1, 8192), (1, 65536)];
-
-/// Fails where a text without events is answered otherwise.
-fn answers<R: Threads + Wait + Abort + Sync>(
-    rt: &R,
-    alloc: Global,
-    row: &(&[u8], usize, &[u8], u8),
-) {
-    let (text, count, printed, status) = *row;
-    let letters = repeated(rt, alloc, "a", count);
-    let (by, end) = if count == 0 {
-        (BY_TWO, b"".as_slice())
-    } else {
-        (LONG, b"\nwait\n".as_slice())
-    };
-    let mut text = Vec::from_slice(alloc, text).expect(rt, "memory");
-    text.extend_from_slice(letters.as_bytes())
-        .expect(rt, "memory");
-    text.extend_from_slice(end).expect(rt, "memory");
-    let mode = Mode {
-        what: "a text without events",
-        config: "lab",
-        manner: MANNER,
-        by,
-        fails: false,
-    };
-    let wanted = (status, Idle(printed), ANY);
-    chats(rt, alloc, &mode, text.as_slice(), wanted);
-}
-
-#[test]
-fn each_malformed_or_long_line_has_one_answer(rt: HostRuntime) {
-    for row in TEXTS {
-        answers(&rt, rt.alloc(), row);
     }
 }
 
@@ -420,13 +192,8 @@ fn written<R: Threads + Wait + Sync, I: Read + Drop, O: Write + Drop>(
     input: I,
     out: O,
 ) -> (Vec<u8>, u8) {
-    let streams = Streams {
-        input: Direct { input },
-        out: lines_alone(out),
-        typed: false,
-        shown: false,
-    };
-    let (page, err, status) = live_to(rt, alloc, words("lab", 2, MANNER, false), streams);
+    let input = Direct { input };
+    let (page, err, status) = live_to(rt, alloc, words(2, MANNER), input, lines_alone(out));
     drop(page);
     (err, status)
 }
@@ -447,7 +214,7 @@ fn answers_are_flushed_before_the_next_read(rt: HostRuntime) {
 }
 
 /// Why no write succeeds, and what is told.
-const UNWRITTEN: &[(ErrorKind, &[u8])] = &[
+static UNWRITTEN: &[(ErrorKind, &[u8])] = &[
     (ErrorKind::BrokenPipe, b""),
     (ErrorKind::StorageFull, CANNOT),
 ];

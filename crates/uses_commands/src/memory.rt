@@ -1,11 +1,10 @@
 //! Runs of files in memory, and of inputs.
 
-use crate::lab::{LAB, Line, lined};
-use crate::told::{File, Folder, Told, Wanted, folder_of, tells};
+use crate::lab::LAB;
+use crate::told::{File, Told, folder_of};
 use apd_driver::{Destination, Form, Manner, Recorder, Recording, Source};
-use apd_run::{Limits, OpenGate, RunWords, Streams, Supplies, Watcher, live, run};
+use apd_run::{Limits, OpenGate, RunWords, Streams, Surroundings, Watcher, live, run};
 use std::alloc::Global;
-use std::process::Abort;
 use std::sync::Wait;
 use std::thread::Threads;
 
@@ -21,67 +20,25 @@ pub const STRICT: Manner = Manner {
     form: Form::LINES,
 };
 
-/// The arguments to run the file `script` with a configuration by `workers` workers.
-pub fn words(config: &str, workers: u8, manner: Manner, verbose: bool) -> RunWords<'_> {
+/// The arguments to run the file `script` by `workers` workers.
+pub fn words(workers: u8, manner: Manner) -> RunWords<'static> {
     RunWords {
-        config,
+        config: "lab",
         script: "script",
         workers,
         manner,
-        verbose,
+        verbose: false,
         prompts: false,
         capture: "capture",
     }
 }
 
-/// Configurations, and the programs that lines name. R0 is 0 in `zero`, which declines, passes or admits, and 1 in
-/// `one`, which drops, refuses or grants, each in 2 steps; `notes` notes 17 in 4 steps, and `clock` the clock in 5.
-/// `mark.hex` lets data pass with mark 5, and `count.hex` counts in map 0. `exit.hex` is refused.
-const PROGRAMS: &[File<'_>] = &[
+/// The configuration, and the programs that lines name: `mark.hex` lets data pass with mark 5, and `drop.hex` drops it.
+static PROGRAMS: &[File<'static>] = &[
     ("lab", LAB),
-    (
-        "counting",
-        b"bssid = \"020000000001\"\nssid = \"lab\"\nrates = \"82848b96\"\ndraw = 0\n\
-        [[map]]\nentries = 1\nwords = 1\nwidth = 8\nscope = \"worker\"\n",
-    ),
-    (
-        "narrow",
-        b"bssid = \"020000000001\"\nssid = \"lab\"\nrates = \"82848b96\"\ndraw = 0\n\
-        [[map]]\nentries = 1\nwords = 1\nwidth = 4\n",
-    ),
-    // map 0 is shared, with 3 entries of 2 words; each worker has a map 1 with one word
-    (
-        "maps",
-        b"bssid = \"020000000001\"\nssid = \"lab\"\nrates = \"82848b96\"\ndraw = 0\n\
-        [[map]]\nentries = 3\nwords = 2\nwidth = 8\n\
-        [[map]]\nentries = 1\nwords = 1\nwidth = 4\nscope = \"worker\"\n",
-    ),
-    // standard input
-    ("-", b""),
     ("mark.hex", b"b700000002050000 9500000000000000\n"),
-    ("exit.hex", b"9500000000000000\n"),
     ("drop.hex", b"b700000001000000 9500000000000000\n"),
-    ("zero", b"b700000000000000 9500000000000000\n"),
-    ("one", b"b700000001000000 9500000000000000\n"),
-    (
-        "notes",
-        b"b701000011000000 8500000005000000 b700000000000000 9500000000000000\n",
-    ),
-    (
-        "clock",
-        b"8500000002000000 bf01000000000000 8500000005000000 b700000000000000 9500000000000000\n",
-    ),
-    (
-        "count.hex",
-        b"1861000000000000 0000000000000000 b702000001000000 db21000000000000\n\
-        b700000000000000 9500000000000000\n",
-    ),
 ];
-
-/// These files and the programs, each read at once.
-fn with_programs<'a>(alloc: Global, files: &'a [File<'a>]) -> Folder<'a> {
-    folder_of(alloc, files, PROGRAMS, usize::MAX)
-}
 
 /// Lines in memory, without a capture.
 pub type Page<L> = Destination<L, Option<Recorder<Vec<u8>>>>;
@@ -105,11 +62,11 @@ pub fn told_of(page: Page<Vec<u8>>, err: Vec<u8>, status: u8) -> Told {
     }
 }
 
-/// Runs a script of files in memory. The watcher is told of each event.
+/// Runs a script. The watcher is told of each event.
 pub fn run_to<R, G, P>(
     rt: &R,
     alloc: Global,
-    files: &[File<'_>],
+    script: &[u8],
     asked: (RunWords<'_>, G),
     out: P,
 ) -> (P, Vec<u8>, u8)
@@ -119,29 +76,17 @@ where
     P: Recording + Drop,
 {
     let (words, gate) = asked;
-    let mut folder = with_programs(alloc, files);
-    let supplies = Supplies {
+    let mut folder = folder_of(alloc, PROGRAMS, ("script", script), usize::MAX);
+    let mut err = Vec::new(alloc);
+    let surroundings = Surroundings {
         files: &mut folder,
         limits: Limits::MOST,
         gate,
+        err: &mut err,
     };
-    let mut err = Vec::new(alloc);
-    let (out, status) = run(rt, alloc, words, supplies, out, &mut err);
+    let (out, status) = run(rt, alloc, words, surroundings, out);
     drop(folder);
     (out, err, status)
-}
-
-/// Runs a script of files in memory. The watcher is told of each event.
-pub fn ran<R: Threads + Wait + Sync, G: Watcher + Copy + Send>(
-    rt: &R,
-    alloc: Global,
-    files: &[File<'_>],
-    words: RunWords<'_>,
-    gate: G,
-) -> Told {
-    let page = lines_alone(Vec::new(alloc));
-    let (page, err, status) = run_to(rt, alloc, files, (words, gate), page);
-    told_of(page, err, status)
 }
 
 /// Runs an input.
@@ -149,21 +94,29 @@ pub fn live_to<R, S, P>(
     rt: &R,
     alloc: Global,
     words: RunWords<'_>,
-    streams: Streams<S, P>,
+    input: S,
+    out: P,
 ) -> (P, Vec<u8>, u8)
 where
     R: Threads + Wait + Sync,
     S: Source + Drop,
     P: Recording + Drop,
 {
-    let mut folder = with_programs(alloc, &[]);
-    let supplies = Supplies {
+    let mut folder = folder_of(alloc, PROGRAMS, ("-", b""), usize::MAX);
+    let mut err = Vec::new(alloc);
+    let surroundings = Surroundings {
         files: &mut folder,
         limits: Limits::MOST,
         gate: OpenGate,
+        err: &mut err,
     };
-    let mut err = Vec::new(alloc);
-    let (out, status) = live(rt, alloc, words, supplies, streams, &mut err);
+    let streams = Streams {
+        input,
+        out,
+        typed: false,
+        shown: false,
+    };
+    let (out, status) = live(rt, alloc, words, surroundings, streams);
     drop(folder);
     (out, err, status)
 }
@@ -175,36 +128,7 @@ pub fn lived<R: Threads + Wait + Sync, S: Source + Drop>(
     words: RunWords<'_>,
     input: S,
 ) -> Told {
-    let streams = Streams {
-        input,
-        out: lines_alone(Vec::new(alloc)),
-        typed: false,
-        shown: false,
-    };
-    let (page, err, status) = live_to(rt, alloc, words, streams);
+    let page = lines_alone(Vec::new(alloc));
+    let (page, err, status) = live_to(rt, alloc, words, input, page);
     told_of(page, err, status)
-}
-
-/// The path of a configuration and the lines of a script, by how many workers and in which manner it runs, and what is
-/// wanted of it.
-#[derive(Drop)]
-pub struct Run<'a> {
-    pub what: &'a str,
-    pub config: &'a str,
-    pub script: &'a [Line<'a>],
-    pub workers: &'a [u8],
-    pub manner: Manner,
-    pub verbose: bool,
-    pub wanted: Wanted<'a, 'a>,
-}
-
-/// Fails if a run tells anything else.
-pub fn runs<R: Threads + Wait + Abort + Sync>(rt: &R, alloc: Global, asked: &Run<'_>) {
-    let script = lined(alloc, asked.script).expect(rt, "memory");
-    let files = [("script", script.as_slice())];
-    for workers in asked.workers {
-        let words = words(asked.config, *workers, asked.manner, asked.verbose);
-        let told = ran(rt, alloc, &files, words, OpenGate);
-        tells(rt, alloc, told, asked.wanted, asked.what);
-    }
 }

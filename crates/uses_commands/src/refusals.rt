@@ -66,7 +66,7 @@ fn number_of(rt: &impl Abort, alloc: Global, example: Example) -> u8 {
 }
 
 /// The numbers whose pages have programs.
-const WITH_PROGRAMS: &[u8] = &[
+static WITH_PROGRAMS: &[u8] = &[
     1, 2, 10, 11, 12, 13, 14, 15, 16, 17, 18, 19, 20, 21, 30, 31, 32, 33, 34, 35, 36, 37, 38,
 ];
 
@@ -82,7 +82,7 @@ fn programs_are_refused_with_their_number_and_admitted_once_cured(rt: HostRuntim
 }
 
 /// The numbers that have a page.
-const EXPLAINED: &[u8] = &[
+static EXPLAINED: &[u8] = &[
     1, 2, 3, 10, 11, 12, 13, 14, 15, 16, 17, 18, 19, 20, 21, 22, 30, 31, 32, 33, 34, 35, 36, 37,
     38, 40, 50, 51, 52, 53, 54, 55, 56, 60, 61, 62, 63, 70, 71, 72,
 ];

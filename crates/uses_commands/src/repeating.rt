@@ -69,7 +69,7 @@ fn timed(rt: &impl Abort, alloc: Global, clock: &Shown<'_>, count: u32, json: bo
 }
 
 /// The table of that program's verdicts.
-const TABLE: &[u8] = b"packet  station            verdict       steps\n\
+static TABLE: &[u8] = b"packet  station            verdict       steps\n\
     3       02:00:00:00:00:0a  drop          2\n\
     4       02:00:00:00:00:0a  drop          2\n\
     5       02:00:00:00:00:0a  drop          2\n\
@@ -79,7 +79,7 @@ const TABLE: &[u8] = b"packet  station            verdict       steps\n\
 
 /// What a clock shows, the number of rounds of four runs each, whether the text is JSON, and its end, which is below
 /// the table if it is none.
-const TIMES: &[(&[u64], u32, bool, &[u8])] = &[
+static TIMES: &[(&[u64], u32, bool, &[u8])] = &[
     (
         &[0, 400, 1000, 1800, 2000, 2603, 3000, 3500],
         4,

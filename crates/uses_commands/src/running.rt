@@ -3,7 +3,6 @@
 ghost use Rattle.std.specs.Prelude.{◌≡◌, vec_len};
 
 use crate::echo::{Echo, Place, Places};
-use crate::lab::WORKERS;
 use crate::memory::{MANNER, STRICT, lines_alone, told_of};
 use crate::told::Text::Idle;
 use crate::told::{ANY, Told, joined, tells};
@@ -84,14 +83,14 @@ type Row = (
     u8,
 );
 
-const ROWS: &[Row] = &[
+static ROWS: &[Row] = &[
     // any number of workers prints the same
     (
         MANNER,
         b"tick 10\ntick 0\ntick 30\nunload data\nwait\ntick 60\nload data absent\n",
         0,
         b"",
-        WORKERS,
+        &[1, 2, 8],
         b"1 memory\n3 memory\n4 memory\n6 memory\n7 unreadable\n",
         3,
     ),
@@ -101,7 +100,7 @@ const ROWS: &[Row] = &[
         b"load data absent\ntick 0\nload data absent\nwait\ntick 20\n",
         0,
         b"",
-        WORKERS,
+        &[1, 2, 8],
         b"1 unreadable\n3 unreadable\n",
         1,
     ),
@@ -110,7 +109,7 @@ const ROWS: &[Row] = &[
         b"load data absent\ntick 10\nwait\ntick 20\n",
         0,
         b"",
-        WORKERS,
+        &[1, 2, 8],
         b"1 unreadable\n2 memory\n",
         3,
     ),
@@ -119,7 +118,7 @@ const ROWS: &[Row] = &[
         b"tick 0\nwait\nload data absent\n",
         0,
         b"",
-        WORKERS,
+        &[1, 2, 8],
         b"3 unreadable\n",
         1,
     ),
@@ -128,7 +127,7 @@ const ROWS: &[Row] = &[
         b"tick 10\nwait\ntick 20\n",
         0,
         b"",
-        WORKERS,
+        &[1, 2, 8],
         b"1 memory\n3 memory\n",
         3,
     ),
@@ -162,7 +161,8 @@ fn prints<R: Threads + Wait + Abort + Sync>(rt: &R, alloc: Global, row: &Row) {
     let script = joined(rt, alloc, &[first, middle.as_slice(), last]);
     for count in workers {
         let told = ran(rt, alloc, *count, script.as_slice(), manner);
-        tells(rt, alloc, told, (status, Idle(printed), ANY), "a script");
+        tells(rt, &told, (status, Idle(printed), ANY), "a script");
+        drop(told);
     }
 }
 

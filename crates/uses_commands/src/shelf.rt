@@ -1,24 +1,6 @@
 //! Files that commands read.
 
-use crate::told::{File, Folder, folder_of};
-use std::alloc::Global;
-
-/// The policy `voice`, as clang compiled it.
-const VOICE: &[u8] =
-    b"71340a0000000000b70300001800000016040100ff000000b70300001a0000000f31000000000000b7060000\
-    00000000bf13000000000000070300000a0000002d230a000000000071120700000000007113060000000000\
-    64030000080000004c230000000000005603050000080000711109000000000054010000fc000000b4060000\
-    0100000016010100b8000000b40600000000000018510000000000000000000000000000bf62000000000000\
-    85000000010000001500030000000000790100000000000007010000010000007b10000000000000b7000000\
-    000000001506010000000000b7000000022e00009500000000000000";
-
-/// An access point with the map of that policy.
-const LAB: &[u8] = b"bssid = \"020000000001\"\nssid = \"lab\"\nrates = \"82848b96\"\ndraw = 1\n\
-    [[map]]\nentries = 2\nwords = 1\nwidth = 8\nscope = \"worker\"\n";
-
-/// Another access point.
-const OTHER: &[u8] = b"bssid = \"020000000002\"\nssid = \"lab\"\nrates = \"82848b96\"\ndraw = 1\n\
-    [[map]]\nentries = 2\nwords = 1\nwidth = 8\nscope = \"worker\"\n";
+use crate::told::File;
 
 /// The capture `examples/voice.pcap`: an authentication, an association, two packets of voice, another, and one of ARP.
 pub const CAPTURE: &[u8] = &[
@@ -46,86 +28,20 @@ pub const CAPTURE: &[u8] = &[
     0x06, 0x00, 0x01,
 ];
 
-/// A capture of two frames of a station that isn't associated: one is encrypted.
-const ALONE: &[u8] = &[
-    0xd4, 0xc3, 0xb2, 0xa1, 0x02, 0x00, 0x04, 0x00, 0x00, 0x00, 0x00, 0x00, 0x00, 0x00, 0x00, 0x00,
-    0xff, 0xff, 0x00, 0x00, 0x69, 0x00, 0x00, 0x00, 0xe8, 0x03, 0x00, 0x00, 0x10, 0x27, 0x00, 0x00,
-    0x26, 0x00, 0x00, 0x00, 0x26, 0x00, 0x00, 0x00, 0x88, 0x01, 0x00, 0x00, 0x02, 0x00, 0x00, 0x00,
-    0x00, 0x01, 0x02, 0x00, 0x00, 0x00, 0x00, 0x0a, 0x02, 0x00, 0x00, 0x00, 0x00, 0xff, 0x30, 0x00,
-    0x00, 0x00, 0xaa, 0xaa, 0x03, 0x00, 0x00, 0x00, 0x08, 0x00, 0x45, 0xb8, 0x00, 0x14, 0xe8, 0x03,
-    0x00, 0x00, 0x30, 0x75, 0x00, 0x00, 0x26, 0x00, 0x00, 0x00, 0x26, 0x00, 0x00, 0x00, 0x88, 0x41,
-    0x00, 0x00, 0x02, 0x00, 0x00, 0x00, 0x00, 0x01, 0x02, 0x00, 0x00, 0x00, 0x00, 0x0a, 0x02, 0x00,
-    0x00, 0x00, 0x00, 0xff, 0x40, 0x00, 0x00, 0x00, 0xaa, 0xaa, 0x03, 0x00, 0x00, 0x00, 0x08, 0x00,
-    0x45, 0xb8, 0x00, 0x14,
-];
+/// A certificate of `one.hex` with one entry: slot 0, budget 2, and nothing is known.
+pub const CERTIFICATE: &[u8] =
+    b"41504332030200 b700000001000000 9500000000000000 01000000 0000 02000000 0000 0000 01 0000 \
+    00000000000000000000 \
+    00000000000000000000000000000000000000000000000000000000000000000000000000000000000000000000\
+    000000000000000000000000000000000000";
 
-/// Data that begins with an `x` is dropped; all else gets mark 5.
-const MARK_OR_DROP: &[u8] =
-    b"bf13000000000000070300001b000000b7000000000000002d2304000000000071141a0000000000b7000000020500005504010078000000b7000000010000009500000000000000";
-
-/// Counts in map 1, and gives the mark in word 0 of map 0.
-const MARK_AND_COUNT: &[u8] =
-    b"18640000010000000000000000000000b705000001000000db5400000000000018640000000000000000000000000000794000000000000057000000ff000000670000000800000047000000020000009500000000000000";
-
-/// Admits a listen interval of at most 10, and refuses others with status 37.
-const ADMISSION: &[u8] =
-    b"69310e0000000000b700000000000000b50101000a000000b7000000250000009500000000000000";
-
-/// Grants windows of at most 8 frames, and none for TID 7.
-const WINDOWS: &[u8] =
-    b"71310a0000000000b7000000080000005501010007000000b7000000000000009500000000000000";
-
-/// The maps of those policies.
-const MAPS: &[u8] =
-    b"bssid = \"020000000001\"\nssid = \"lab\"\nrates = \"82848b96\"\ndraw = 0\n\n[[map]]\nentries = 1\nwords = 2\nwidth = 8\nscope = \"shared\"\n\n[[map]]\nentries = 1\nwords = 1\nwidth = 8\nscope = \"worker\"\n";
-
-/// All files, but for those of one test alone.
-const FILES: &[File<'_>] = &[
-    ("voice.hex", VOICE),
-    // `mov r0, 37` and `exit`, and `exit` alone
+/// An access point with a map, and programs: `mov r0, 37` and `exit`, and `mov r0, 1` and `exit`.
+pub static FILES: &[File<'static>] = &[
+    (
+        "lab.toml",
+        b"bssid = \"020000000001\"\nssid = \"lab\"\nrates = \"82848b96\"\ndraw = 1\n\
+        [[map]]\nentries = 2\nwords = 1\nwidth = 8\nscope = \"worker\"\n",
+    ),
     ("refuses.hex", b"b700000025000000 9500000000000000"),
-    ("exits.hex", b"9500000000000000"),
-    // `mov r0, 1` and `exit`, and `mov r0, 11778` and `exit`
-    ("drops.hex", b"b700000001000000 9500000000000000"),
-    ("marks.hex", b"b7000000022e0000 9500000000000000"),
-    ("lab.toml", LAB),
-    ("other.toml", OTHER),
-    ("voice.pcap", CAPTURE),
-    ("alone.pcap", ALONE),
-    ("mark.hex", MARK_OR_DROP),
-    ("count.hex", MARK_AND_COUNT),
-    ("admission.hex", ADMISSION),
-    ("windows.hex", WINDOWS),
-    // without a result, and with a jump past its end
-    ("none.hex", b"9500000000000000"),
-    ("astray.hex", b"0500070000000000"),
-    ("maps.toml", MAPS),
-    ("good.s", b"mov r0, 1\nexit\n"),
-    ("bad.s", b"mov r0, 1\nexti\n"),
     ("one.hex", b"b700000001000000\n9500000000000000\n"),
-    ("exit.hex", b"9500000000000000\n"),
-    (
-        "damaged.hex",
-        b"b700000001000000 ff00000000000000 1800000000000000 95",
-    ),
-    ("tells.hex", b"7930000000000000 9500000000000000"),
-    ("more.hex", b"7930080000000000 9500000000000000"),
-    (
-        "map.hex",
-        b"1851000000000000 0000000000000000 b700000000000000 9500000000000000",
-    ),
-    ("one.cert", b"4150433203"),
-    // a certificate of one.hex with one entry: slot 0, budget 2, and nothing is known
-    (
-        "own.cert",
-        b"41504332030200 b700000001000000 9500000000000000 01000000 0000 02000000 0000 0000 01 0000 \
-         00000000000000000000 \
-         00000000000000000000000000000000000000000000000000000000000000000000000000000000000000000000\
-         000000000000000000000000000000000000",
-    ),
 ];
-
-/// These files and all others, read in blocks of at most `step` bytes.
-pub fn shelf<'a>(alloc: Global, files: &'a [File<'a>], step: usize) -> Folder<'a> {
-    folder_of(alloc, files, FILES, step)
-}

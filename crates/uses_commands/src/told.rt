@@ -11,33 +11,30 @@ use std::process::Abort;
 /// A file's path and its bytes.
 pub type File<'a> = (&'a str, &'a [u8]);
 
-/// Files in memory of which no contract knows the contents, in two lists; `folder` is a directory. Beside them are the
-/// unread part of the open one, which is read in blocks of at most `step` bytes, and what was written to another,
-/// `saved`.
+/// Files in memory of which no contract knows the contents: a list, and one beside it. The unread part of the open one
+/// is read in blocks of at most `step` bytes. Nothing may be written.
 #[derive(Drop)]
 pub struct Folder<'a> {
     alloc: Global,
     files: &'a [File<'a>],
-    shelf: &'a [File<'a>],
+    file: File<'a>,
     step: usize,
     left: &'a [u8],
-    saved: Vec<u8>,
 }
 
 /// Files in memory; none is open.
 pub fn folder_of<'a>(
     alloc: Global,
     files: &'a [File<'a>],
-    shelf: &'a [File<'a>],
+    file: File<'a>,
     step: usize,
 ) -> Folder<'a> {
     Folder {
         alloc,
         files,
-        shelf,
+        file,
         step,
         left: b"",
-        saved: Vec::new(alloc),
     }
 }
 
@@ -51,29 +48,19 @@ fn bytes_of<'a>(files: &'a [File<'a>], path: &str) -> Option<&'a [u8]> {
     None
 }
 
-/// The bytes of a file in the one list or in the other, or why there are none.
-fn found<'a>(
-    files: &'a [File<'a>],
-    shelf: &'a [File<'a>],
-    path: &str,
-) -> Result<&'a [u8], FileFault> {
-    if path == "folder" {
-        return Err(FileFault::Directory);
-    }
-    match bytes_of(files, path) {
-        Some(bytes) => Ok(bytes),
-        None => bytes_of(shelf, path).ok_or(FileFault::Missing),
-    }
-}
-
 impl Files for Folder<'_> {
     fn open(&mut self, path: &str) -> Result<(), FileFault> {
-        match found(self.files, self.shelf, path) {
-            Ok(bytes) => {
+        let (name, bytes) = self.file;
+        if name == path {
+            self.left = bytes;
+            return Ok(());
+        }
+        match bytes_of(self.files, path) {
+            Some(bytes) => {
                 self.left = bytes;
                 return Ok(());
             }
-            Err(why) => return Err(why),
+            None => return Err(FileFault::Missing),
         }
     }
 
@@ -87,14 +74,8 @@ impl Files for Folder<'_> {
         }
     }
 
-    fn save(&mut self, path: &str, bytes: &[u8]) -> Result<(), Unwritten> {
-        if path != "saved" {
-            return Err(Unwritten(ErrorKind::PermissionDenied));
-        }
-        match self.saved.extend_from_slice(bytes) {
-            Ok(()) => Ok(()),
-            Err(_) => Err(Unwritten(ErrorKind::OutOfMemory)),
-        }
+    fn save(&mut self, _path: &str, _bytes: &[u8]) -> Result<(), Unwritten> {
+        Err(Unwritten(ErrorKind::PermissionDenied))
     }
 }
 
@@ -123,94 +104,54 @@ pub const ANY: Text<'static> = Text::End(b"");
 /// What is wanted of a command or a run: its status, its output and its error.
 pub type Wanted<'a, 'b> = (u8, Text<'a>, Text<'b>);
 
-/// The parts of a text.
-fn parts_of<'a>(wanted: Text<'a>) -> [&'a [u8]; 3] {
+/// The part of a text that is compared with what is wanted, which follows. None if the text hasn't that part.
+fn part_of<'a>(found: &'a [u8], wanted: Text<'a>) -> (Option<&'a [u8]>, &'a [u8]) {
     match wanted {
-        Text::All(text) => [b"", text, b""],
-        Text::Start(text) => [b"", text, b""],
-        Text::End(text) => [b"", text, b""],
-        Text::Answered(text) => [ANSWERS, text, b""],
-        Text::Idle(text) => [b"", text, NO_EVENTS],
-    }
-}
-
-/// The bytes that are compared with a wanted text of this length.
-fn compared<'a>(found: &'a [u8], wanted: Text<'_>, len: usize) -> &'a [u8] {
-    let before = found.len().saturating_sub(len);
-    match wanted {
-        Text::Start(_) => found.get(..len).unwrap_or(found),
-        Text::End(_) => found.get(before..).unwrap_or(found),
-        _ => found,
+        Text::All(text) => (Some(found), text),
+        Text::Start(text) => (found.get(..text.len()), text),
+        Text::End(text) => {
+            let before = found.len().saturating_sub(text.len());
+            (found.get(before..), text)
+        }
+        Text::Answered(text) => (found.strip_prefix(ANSWERS), text),
+        Text::Idle(text) => (found.strip_suffix(NO_EVENTS), text),
     }
 }
 
 /// Fails if a text isn't as it is wanted.
-fn shows(rt: &impl Abort, alloc: Global, found: &[u8], wanted: Text<'_>, what: (&str, &str)) {
+fn shows(rt: &impl Abort, found: &[u8], wanted: Text<'_>, what: (&str, &str)) {
     let (kind, name) = what;
-    let text = joined(rt, alloc, &parts_of(wanted));
-    let part = compared(found, wanted, text.len());
-    same(rt, (kind, part), (kind, text.as_slice()), name);
+    let (part, text) = part_of(found, wanted);
+    same(rt, (kind, part), (kind, Some(text)), name);
 }
 
 /// Fails if the status, the output or the error isn't as it is wanted.
-pub fn tells(rt: &impl Abort, alloc: Global, told: Told, wanted: Wanted<'_, '_>, what: &str) {
+pub fn tells(rt: &impl Abort, told: &Told, wanted: Wanted<'_, '_>, what: &str) {
     let (status, out, err) = wanted;
     same(rt, ("status", told.status), ("status", status), what);
-    shows(rt, alloc, told.out.as_slice(), out, ("output", what));
-    shows(rt, alloc, told.err.as_slice(), err, ("error", what));
-    drop(told);
+    shows(rt, told.out.as_slice(), out, ("output", what));
+    shows(rt, told.err.as_slice(), err, ("error", what));
 }
 
-/// QoS data with TID 6 and number 100.
-const FRAME: &str = "8801000002000000000102000000000a0200000000ff40060600";
-
-/// The word that a word of a line stands for.
-fn spelled(word: &str) -> &str {
-    match word {
-        "FRAME" => FRAME,
-        "\"\"" => "",
-        _ => word,
-    }
-}
-
-/// The words of a line, between which are spaces.
-fn words_of<'a>(rt: &impl Abort, alloc: Global, line: &'a str) -> Vec<&'a str> {
-    let mut words = Vec::new(alloc);
-    for word in line.split(' ') {
-        if !word.is_empty() {
-            words.push(spelled(word)).expect(rt, "memory");
-        }
-    }
-    words
-}
-
-/// Runs a command with these files.
-pub fn answer<F: Files>(rt: &impl Abort, alloc: Global, line: &str, files: &mut F) -> Told {
-    let words = words_of(rt, alloc, line);
+/// Fails if a command with these files does anything else.
+pub fn does<F: Files>(
+    rt: &impl Abort,
+    alloc: Global,
+    files: &mut F,
+    words: &[&str],
+    wanted: Wanted<'_, '_>,
+) {
     let mut out = Vec::new(alloc);
     let mut err = Vec::new(alloc);
-    let status = apd_main(alloc, words.as_slice(), files, &mut out, &mut err);
-    Told { status, out, err }
-}
-
-/// A command, what is wanted of it, and what it writes to the file `saved`.
-pub type Row<'a> = (&'a str, Wanted<'a, 'a>, &'a [u8]);
-
-/// Fails if a command with these files does anything else.
-pub fn says(rt: &impl Abort, folder: Folder<'_>, row: &Row<'_>) {
-    let (line, wanted, saved) = *row;
-    does(rt, folder, line, wanted, saved);
-}
-
-/// Fails if a command with these files does anything else.
-pub fn does(rt: &impl Abort, folder: Folder<'_>, line: &str, wanted: Wanted<'_, '_>, saved: &[u8]) {
-    let mut folder = folder;
-    let alloc = folder.alloc;
-    let told = answer(rt, alloc, line, &mut folder);
-    tells(rt, alloc, told, wanted, line);
-    let found = folder.saved.as_slice();
-    same(rt, ("saved", found), ("saved", saved), line);
-    drop(folder);
+    let status = apd_main(alloc, words, files, &mut out, &mut err);
+    let told = Told { status, out, err };
+    tells(
+        rt,
+        &told,
+        wanted,
+        words.last().copied().unwrap_or("no words"),
+    );
+    drop(told);
 }
 
 /// Concatenates parts of a text.
@@ -220,9 +161,4 @@ pub fn joined(rt: &impl Abort, alloc: Global, parts: &[&[u8]]) -> Vec<u8> {
         text.extend_from_slice(part).expect(rt, "memory");
     }
     text
-}
-
-/// A text, `times` times.
-pub fn repeated(rt: &impl Abort, alloc: Global, text: &str, times: usize) -> String {
-    text.repeat(alloc, times).expect(rt, "memory")
 }

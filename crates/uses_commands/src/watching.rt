@@ -29,7 +29,7 @@ fn lines_after(hand: &Hand, gate: &impl Gate, events: u64) -> u64 {
 }
 
 /// Milliseconds that a clock shows one after the other, and the number of lines then.
-const LINES: &[(u64, u64)] = &[(500, 0), (1400, 0), (1500, 1), (4400, 2), (4400, 2)];
+static LINES: &[(u64, u64)] = &[(500, 0), (1400, 0), (1500, 1), (4400, 2), (4400, 2)];
 
 #[test]
 fn a_line_a_second_is_told_of_a_long_run(rt: HostRuntime) {
