@@ -13,20 +13,21 @@ keeps_parts : (n : ℕ) (a b : Eight) → KeepParts a b → HasParts n (holding_
 keeps_parts n a b k h = (k.0 ∙ h.0, k.1 ∙ h.1, k.2 ∙ h.2, k.3 ∙ h.3, k.4 ∙ h.4, k.5 ∙ h.5, k.6 ∙ h.6, k.7 ∙ h.7)
 
 -- a worker that has served
-pub hand_served : (a : Live) (w w2 : Worker) → IsHand a w → IsWorker a w2 → KeepParts w.shards w2.shards → IsHand a w2
-hand_served a w w2 h own keep = record { own = own; part = keeps_parts 1 w.shards w2.shards keep h.part }
+pub hand_served : (a : Live) (w w1 w2 : Worker) → w1 ≡ w → IsHand a w → IsWorker a w2 → KeepParts w1.shards w2.shards → IsHand a w2
+hand_served a w w1 w2 same h own keep =
+    record { own = own; part = keeps_parts 1 w.shards w2.shards (subst (λ (v : Worker). KeepParts v.shards w2.shards) same keep) h.part }
 
 -- an operator whose token has the same parts of the ledgers
 chief_still : (a : Live) (o o2 : Operator) → IsChief a o → IsOperator a o2 → o2.shards ≡ o.shards → IsChief a o2
 chief_still a o o2 h own same = record { own = own; part = subst (λ (e : Eight). HasParts 1 (holding_of e)) (sym same) h.part }
 
 -- an operator that has put an item
-pub chief_put : (a : Live) (o o2 : Operator) → IsChief a o → IsOperator a o2 → o2 ≡ record o { lines = o2.lines } → IsChief a o2
-chief_put a o o2 h own same = chief_still a o o2 h own (ap (λ (p : Operator). p.shards) same)
+pub chief_put : (a : Live) (o o1 o2 : Operator) → o1 ≡ o → IsChief a o → IsOperator a o2 → o2 ≡ record o1 { lines = o2.lines } → IsChief a o2
+chief_put a o o1 o2 is h own same = chief_still a o o2 h own (ap (λ (p : Operator). p.shards) same ∙ ap (λ (p : Operator). p.shards) is)
 
 -- an operator that has used a map
-pub chief_reached : (a : Live) (o o2 : Operator) → IsChief a o → IsOperator a o2 → o2 ≡ record o { seats = o2.seats } → IsChief a o2
-chief_reached a o o2 h own same = chief_still a o o2 h own (ap (λ (p : Operator). p.shards) same)
+pub chief_reached : (a : Live) (o o1 o2 : Operator) → o1 ≡ o → IsChief a o → IsOperator a o2 → o2 ≡ record o1 { seats = o2.seats } → IsChief a o2
+chief_reached a o o1 o2 is h own same = chief_still a o o2 h own (ap (λ (p : Operator). p.shards) same ∙ ap (λ (p : Operator). p.shards) is)
 
 -- an operator whose command has been decided
 pub chief_acted : (a : Live) (o o2 : Operator) → IsChief a o → o2 ≡ record o { shards = o2.shards } → KeepParts o.shards o2.shards → IsChief a o2

@@ -20,9 +20,9 @@ use std::thread::yield_now;
 #[derive(Drop)]
 pub struct Hand<'a, B: Ledgers + Journals> {
     pub(crate) ap: &'a LiveAp<B>,
-    pub(crate) token: WorkerToken<B>,
+    pub(crate) token: Box<WorkerToken<B>>,
     pub number: u8,
-    pub ghost is_hand: { IsHand ap.now token },
+    pub ghost is_hand: { IsHand ap.now token.value },
 }
 
 impl<'a, B: Ledgers + Journals> Hand<'a, B> {
@@ -34,7 +34,7 @@ impl<'a, B: Ledgers + Journals> Hand<'a, B> {
         gate: &G,
         list: &mut Vec<Tagged>,
     ) -> Result<(), AllocError> {
-        self.ap.serve(rt, alloc, &mut self.token, gate, list)
+        self.ap.serve(rt, alloc, &mut *self.token, gate, list)
     }
 
     /// Returns its part of each ledger.
@@ -44,7 +44,7 @@ impl<'a, B: Ledgers + Journals> Hand<'a, B> {
             token,
             number: _,
         } = self;
-        purse.take(token.into_shares());
+        purse.take(Box::into_inner(token).into_shares());
     }
 }
 
@@ -52,15 +52,15 @@ impl<'a, B: Ledgers + Journals> Hand<'a, B> {
 #[derive(Drop)]
 pub struct Chief<'a, B: Ledgers + Journals> {
     pub(crate) ap: &'a LiveAp<B>,
-    pub(crate) token: OperatorToken<B>,
+    pub(crate) token: Box<OperatorToken<B>>,
     pub number: u8,
-    pub ghost is_chief: { IsChief ap.now token },
+    pub ghost is_chief: { IsChief ap.now token.value },
 }
 
 impl<'a, B: Ledgers + Journals> Chief<'a, B> {
     /// Puts an event into the queue of its shard's worker, as `LiveAp::submit`.
     pub fn submit<R: Wait>(&mut self, rt: &R, call: u64, event: Event) -> Result<(), Unserved> {
-        self.ap.submit(rt, &mut self.token, call, event)
+        self.ap.submit(rt, &mut *self.token, call, event)
     }
 
     /// Continues with a tick at this shard, as `LiveAp::submit_at`.
@@ -74,7 +74,7 @@ impl<'a, B: Ledgers + Journals> Chief<'a, B> {
         requires { shard < 8 }
     {
         let event = Event::Tick(units);
-        self.ap.submit_at(rt, &mut self.token, call, event, shard)
+        self.ap.submit_at(rt, &mut *self.token, call, event, shard)
     }
 
     /// Retries an event that was returned.
@@ -126,7 +126,7 @@ impl<'a, B: Ledgers + Journals> Chief<'a, B> {
             station: Address::new(station),
             reason: Reason::new(reason),
         };
-        let outs = self.ap.act(rt, alloc, &mut self.token, &event)?;
+        let outs = self.ap.act(rt, alloc, &mut *self.token, &event)?;
         Ok(outs)
     }
 
@@ -135,7 +135,7 @@ impl<'a, B: Ledgers + Journals> Chief<'a, B> {
         if !self.ap.has_word(Scope::Shared, map, word) {
             return false;
         }
-        self.ap.store(&mut self.token, map, word, value);
+        self.ap.store(&mut *self.token, map, word, value);
         true
     }
 
@@ -144,7 +144,7 @@ impl<'a, B: Ledgers + Journals> Chief<'a, B> {
         if !self.ap.has_word(Scope::Shared, map, word) {
             return None;
         }
-        Some(self.ap.read(&mut self.token, map, word))
+        Some(self.ap.read(&mut *self.token, map, word))
     }
 
     /// The sum of a word of a worker map over all workers, if there is such a word.
@@ -152,7 +152,7 @@ impl<'a, B: Ledgers + Journals> Chief<'a, B> {
         if !self.ap.has_word(Scope::Worker, map, word) {
             return None;
         }
-        Some(self.ap.sum(&mut self.token, map, word))
+        Some(self.ap.sum(&mut *self.token, map, word))
     }
 
     /// Returns its part of each ledger.
@@ -162,6 +162,6 @@ impl<'a, B: Ledgers + Journals> Chief<'a, B> {
             token,
             number: _,
         } = self;
-        purse.take(token.into_shares());
+        purse.take(Box::into_inner(token).into_shares());
     }
 }

@@ -14,9 +14,9 @@ pub(crate) const PARTS: u64 = 17;
 /// This many parts of each ledger.
 #[derive(Drop)]
 pub(crate) struct Purse<B: Ledgers> {
-    pub shares: Portions<B>,
+    pub shares: Box<Portions<B>>,
     pub parts: u64,
-    pub ghost so_many: { HasParts parts shares },
+    pub ghost so_many: { HasParts parts shares.value },
 }
 
 impl<B: Ledgers> Purse<B> {
@@ -45,5 +45,5 @@ pub(crate) fn total<B: Ledgers + Journals, R: Wait>(
     if purse.parts != PARTS {
         return None;
     }
-    Some(ap.gather(rt, &mut purse.shares))
+    Some(ap.gather(rt, &mut *purse.shares))
 }

@@ -5,7 +5,7 @@ ghost use Rattle.std.specs.List.{All};
 ghost use Rattle.ap_live.specs.Opening.{parts_in_all};
 ghost use Rattle.ap_live.specs.Tokens.{AreLeft};
 ghost use Rattle.ap_shards.specs.Opening.{AreNamed};
-ghost use Rattle.live_scenes.specs.Rights.{IsChief, IsHand};
+ghost use Rattle.live_scenes.specs.Rights.{IsChiefBoxed, IsHandBoxed};
 
 use crate::crew::{Crew, chiefs_of, deal, hands_of};
 use crate::hands::{Chief, Hand};
@@ -86,8 +86,8 @@ fn scene_of<'a, B: Ledgers + Journals>(
     ap: &'a LiveAp<B>,
     crew: Crew<B>,
 ) -> Result<Scene<'a, B>, AllocError>
-    requires hands { All (IsHand ap.now) crew.workers.items }
-    requires chiefs { All (IsChief ap.now) crew.operators.items }
+    requires hands { All (IsHandBoxed ap.now) crew.workers.items }
+    requires chiefs { All (IsChiefBoxed ap.now) crew.operators.items }
 {
     let Crew { workers, operators } = crew;
     let Ok(hands) = hands_of(alloc, ap, workers) else {
@@ -265,8 +265,8 @@ where
     B: Ledgers + Journals + Send + Sync,
     R: Threads + Wait + Sync,
     S: Story<R> + Sync,
-    requires hands { All (IsHand ap.now) tokens.0.workers.items }
-    requires chiefs { All (IsChief ap.now) tokens.0.operators.items }
+    requires hands { All (IsHandBoxed ap.now) tokens.0.workers.items }
+    requires chiefs { All (IsChiefBoxed ap.now) tokens.0.operators.items }
     requires shares { B.shares ≡ 17 }
 {
     let (crew, purse) = tokens;

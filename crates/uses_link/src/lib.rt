@@ -22,6 +22,8 @@ mod frames;
 #[cfg(test)]
 mod same;
 #[cfg(test)]
+mod spelled;
+#[cfg(test)]
 mod stations;
 #[cfg(test)]
 mod tests;

@@ -1,13 +1,14 @@
 //! The tables, row by row, and the bytes of a context of each hook.
 
-use crate::same::{holds, same};
+use crate::same::same;
 use assoc::Known;
-use bpf_regions::Hook;
+use bpf_regions::{Context, Hook};
 use hooks::{
     Asker, DataVerdict, addba_context, addba_verdict, assoc_verdict, association_context,
     data_context, data_verdict, no_program,
 };
 use mac_types::{Address, BufferSize, Capability, SequenceNumber, Tid};
+use std::process::Abort;
 
 /// Station `02000000000a` in State 3 with identifier 258.
 fn asker() -> Asker {
@@ -17,86 +18,66 @@ fn asker() -> Asker {
     }
 }
 
-#[test]
-fn association_verdicts_are_statuses(rt: HostRuntime) {
-    let cases = [
-        (0, 0),
-        (1, 1),
-        (10, 10),
-        (12, 12),
-        (17, 17),
-        (37, 37),
-        (5, 1),
-        (u64::MAX, 1),
-    ];
-    for (r0, status) in cases {
-        same(&rt, assoc_verdict(r0).code(), status, "code");
+/// A hook, the answer of a program for it, none if there is no program, the requested size, and what the verdict gives.
+type Row = (Hook, Option<u64>, u16, Option<u16>);
+
+/// The verdicts, by hook: on an association the status; on an agreement the size, if one is granted; on data the mark,
+/// if the data is passed up.
+static VERDICTS: &[Row] = &[
+    (Hook::Association, Some(0), 0, Some(0)),
+    (Hook::Association, Some(1), 0, Some(1)),
+    (Hook::Association, Some(10), 0, Some(10)),
+    (Hook::Association, Some(12), 0, Some(12)),
+    (Hook::Association, Some(17), 0, Some(17)),
+    (Hook::Association, Some(37), 0, Some(37)),
+    (Hook::Association, Some(5), 0, Some(1)),
+    (Hook::Association, Some(u64::MAX), 0, Some(1)),
+    (Hook::Association, None, 0, Some(0)),
+    (Hook::Addba, Some(0), 64, None),
+    (Hook::Addba, Some(200), 64, Some(64)),
+    (Hook::Addba, Some(8), 4, Some(4)),
+    (Hook::Addba, Some(3), 4, Some(3)),
+    (Hook::Addba, Some(64), 0, Some(64)),
+    (Hook::Addba, Some(u64::MAX), 1023, Some(64)),
+    (Hook::Addba, None, 16, Some(16)),
+    (Hook::Data, Some(1282), 0, Some(5)),
+    (Hook::Data, Some(1280), 0, Some(0)),
+    (Hook::Data, Some(1281), 0, None),
+    (Hook::Data, Some(1283), 0, None),
+    (Hook::Data, None, 0, Some(0)),
+];
+
+/// What the verdict of an answer gives.
+fn given(hook: Hook, r0: u64, asked: BufferSize) -> Option<u16> {
+    match hook {
+        Hook::Association => Some(assoc_verdict(r0).code()),
+        Hook::Addba => Some(u16::from(addba_verdict(r0, asked)?)),
+        Hook::Data => match data_verdict(r0) {
+            DataVerdict::Pass(mark) => Some(u16::from(mark)),
+            DataVerdict::Discard => None,
+        },
     }
 }
 
 #[test]
-fn addba_verdicts_are_sizes(rt: HostRuntime) {
-    let cases = [
-        (0, 64, None),
-        (200, 64, Some(64)),
-        (8, 4, Some(4)),
-        (3, 4, Some(3)),
-        (64, 0, Some(64)),
-        (u64::MAX, 1023, Some(64)),
-    ];
-    for (r0, asked, size) in cases {
-        let asked = BufferSize::new(asked).expect(&rt, "a size");
-        same(&rt, addba_verdict(r0, asked), size, "addba verdict");
+fn verdicts_are_statuses_sizes_and_marks(rt: HostRuntime) {
+    for (hook, r0, asked, wanted) in VERDICTS {
+        let asked = BufferSize::new(*asked).expect(&rt, "a size");
+        let r0 = r0.unwrap_or(no_program(*hook));
+        let found = (*hook, r0, given(*hook, r0, asked));
+        same(&rt, found, (*hook, r0, *wanted), "hook, answer, verdict");
     }
 }
 
-#[test]
-fn data_verdicts_are_marks(rt: HostRuntime) {
+/// A context begins with these 18 of its 32 bytes; the others are 0.
+fn begins(rt: &impl Abort, told: Context, wanted: [u8; 18]) {
+    let (first, rest) = told.bytes().split_at(18);
+    let none = [0; 14];
     same(
-        &rt,
-        data_verdict(1282),
-        DataVerdict::Pass(5),
-        "data verdict",
-    );
-    same(
-        &rt,
-        data_verdict(1280),
-        DataVerdict::Pass(0),
-        "data verdict",
-    );
-    same(
-        &rt,
-        data_verdict(1281),
-        DataVerdict::Discard,
-        "data verdict",
-    );
-    same(
-        &rt,
-        data_verdict(1283),
-        DataVerdict::Discard,
-        "data verdict",
-    );
-}
-
-#[test]
-fn without_a_program_all_is_admitted(rt: HostRuntime) {
-    let asked = BufferSize::new(16).expect(&rt, "a size");
-    holds(
-        &rt,
-        assoc_verdict(no_program(Hook::Association)).is_success(),
-        "is success",
-    );
-    same(
-        &rt,
-        addba_verdict(no_program(Hook::Addba), asked),
-        Some(16),
-        "addba verdict",
-    );
-    same(
-        &rt,
-        data_verdict(no_program(Hook::Data)),
-        DataVerdict::Pass(0),
-        "data verdict",
+        rt,
+        (first, rest),
+        (wanted.as_slice(), none.as_slice()),
+        "bytes",
     );
 }
 
@@ -109,28 +90,16 @@ fn contexts_have_their_bytes(rt: HostRuntime) {
         standing: None,
         ..asker()
     };
-    // The first 18 of the 32 bytes; the others are 0.
-    let rows = [
-        (
-            association_context(asker(), Capability::new(0x0421), 10, true),
-            [2, 0, 0, 0, 0, 10, 1, 3, 2, 1, 255, 0, 0x21, 4, 10, 0, 1, 0],
-        ),
-        (
-            addba_context(asker(), tid, asked, 300, start),
-            [2, 0, 0, 0, 0, 10, 2, 3, 2, 1, 5, 0, 64, 0, 44, 1, 254, 15],
-        ),
-        (
-            data_context(unknown, None, start, None),
-            [2, 0, 0, 0, 0, 10, 3, 1, 0, 0, 255, 0, 254, 15, 0, 0, 0, 0],
-        ),
-        (
-            data_context(asker(), Some(tid), SequenceNumber::ZERO, Some(start)),
-            [2, 0, 0, 0, 0, 10, 3, 3, 2, 1, 5, 0, 0, 0, 254, 15, 1, 0],
-        ),
-    ];
-    for (told, wanted) in &rows {
-        let (first, rest) = told.bytes().split_at(18);
-        same(&rt, first, wanted.as_slice(), "first");
-        same(&rt, rest, [0; 14].as_slice(), "rest");
-    }
+    let told = association_context(asker(), Capability::new(0x0421), 10, true);
+    let wanted = [2, 0, 0, 0, 0, 10, 1, 3, 2, 1, 255, 0, 0x21, 4, 10, 0, 1, 0];
+    begins(&rt, told, wanted);
+    let told = addba_context(asker(), tid, asked, 300, start);
+    let wanted = [2, 0, 0, 0, 0, 10, 2, 3, 2, 1, 5, 0, 64, 0, 44, 1, 254, 15];
+    begins(&rt, told, wanted);
+    let told = data_context(unknown, None, start, None);
+    let wanted = [2, 0, 0, 0, 0, 10, 3, 1, 0, 0, 255, 0, 254, 15, 0, 0, 0, 0];
+    begins(&rt, told, wanted);
+    let told = data_context(asker(), Some(tid), SequenceNumber::ZERO, Some(start));
+    let wanted = [2, 0, 0, 0, 0, 10, 3, 3, 2, 1, 5, 0, 0, 0, 254, 15, 1, 0];
+    begins(&rt, told, wanted);
 }

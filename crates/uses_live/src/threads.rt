@@ -2,7 +2,6 @@
 
 ghost use Rattle.std.specs.Prelude.{◌≡◌};
 ghost use Rattle.std.specs.Arc.{arc_value};
-ghost use Rattle.std.specs.Thread.{IsSync};
 ghost use Rattle.bpf_regions.specs.declared.hooks.Hook.TheVariants.{Association, Addba, Data};
 
 use crate::programs::{accepted, answers_of, notes_of};
@@ -15,6 +14,7 @@ use std::process::Abort;
 use std::sync::atomic::AtomicU32;
 use std::sync::atomic::Ordering::SeqCst;
 use std::sync::{Arc, Wait};
+use std::thread;
 use std::thread::{Threads, join};
 use versions::{Entrance, News, ProgramSet, Published, Publisher, Reader};
 
@@ -102,106 +102,65 @@ fn read_many<R: Wait>(rt: &R, entrance: &Entrance, reader: Reader, reading: &Ato
     right
 }
 
-fn read_by_two<R: Threads + Wait + Sync>(
-    rt: &R,
-    entrance: &Entrance,
-    readers: (Reader, Reader),
-    reading: &AtomicU32,
-) -> bool
-    requires { (readers.0.list ≡ entrance.now.list) × (readers.1.list ≡ entrance.now.list) }
-{
-    let (one, other) = readers;
-    let (first, second) = join(
-        rt,
-        || read_many(rt, entrance, one, reading),
-        || read_many(rt, entrance, other, reading),
-    );
-    first && second
+/// A reader, with the entrance to its sets.
+#[derive(Drop)]
+struct Reading<'e> {
+    entrance: &'e Entrance,
+    reader: Reader,
+    ghost own: { reader.list ≡ entrance.now.list },
 }
 
-fn read_by_four<R: Threads + Wait + Sync>(
+/// Each reader reads in a thread of its own. How many entered only sets that may have been published.
+fn read_by_all<R: Threads + Wait + Sync>(
     rt: &R,
-    entrance: &Entrance,
-    one: (Reader, Reader),
-    other: (Reader, Reader),
+    readers: &mut [Option<Reading<'_>>],
     reading: &AtomicU32,
-) -> bool
-    requires one { (one.0.list ≡ entrance.now.list) × (one.1.list ≡ entrance.now.list) }
-    requires other { (other.0.list ≡ entrance.now.list) × (other.1.list ≡ entrance.now.list) }
-{
-    let (first, second) = join(
+) -> u32 {
+    let right = AtomicU32::new(0);
+    thread::for_each_mut(
         rt,
-        || -> bool
-            requires { IsSync R.row × (one.0.list ≡ entrance.now.list)
-                × (one.1.list ≡ entrance.now.list) }
-        { read_by_two(rt, entrance, one, reading) },
-        || -> bool
-            requires { IsSync R.row × (other.0.list ≡ entrance.now.list)
-                × (other.1.list ≡ entrance.now.list) }
-        { read_by_two(rt, entrance, other, reading) },
+        readers,
+        4,
+        &|_place, slot| {
+            if let Some(Reading { entrance, reader }) = slot.take() {
+                if read_many(rt, entrance, reader, reading) {
+                    right.fetch_add(1, SeqCst);
+                }
+            }
+        },
     );
-    first && second
+    right.load(SeqCst)
 }
 
 /// A reader that has learned all loads so far.
-fn told_reader(
+fn told_reader<'e>(
     rt: &impl Abort,
     publisher: &mut Publisher,
     sets: &mut Published,
-    entrance: &Entrance,
-) -> Reader
+    entrance: &'e Entrance,
+) -> Option<Reading<'e>>
     requires publisher { publisher.old.list ≡ entrance.now.list }
     requires sets { sets.old.list ≡ entrance.now.list }
     ensures publisher { publisher.new ≡ publisher.old }
     ensures sets { sets.new.list ≡ entrance.now.list }
-    ensures own { result.list ≡ entrance.now.list }
 {
     let reader = sets.reader().expect(rt, "a reader");
-    entrance.learn(reader, publisher.tell())
-}
-
-/// Two such readers.
-fn two_readers(
-    rt: &impl Abort,
-    publisher: &mut Publisher,
-    sets: &mut Published,
-    entrance: &Entrance,
-) -> (Reader, Reader)
-    requires publisher { publisher.old.list ≡ entrance.now.list }
-    requires sets { sets.old.list ≡ entrance.now.list }
-    ensures publisher { publisher.new ≡ publisher.old }
-    ensures sets { sets.new.list ≡ entrance.now.list }
-    ensures own { (result.0.list ≡ entrance.now.list) × (result.1.list ≡ entrance.now.list) }
-{
-    let one = told_reader(rt, publisher, sets, entrance);
-    let other = told_reader(rt, publisher, sets, entrance);
-    (one, other)
+    let reader = entrance.learn(reader, publisher.tell());
+    Some(Reading { entrance, reader })
 }
 
 /// Four threads read while this one publishes.
 fn read_beside<R: Threads + Wait + Sync>(
     rt: &R,
-    entrance: &Entrance,
-    readers: ((Reader, Reader), (Reader, Reader)),
+    readers: &mut [Option<Reading<'_>>],
     publisher: &mut Publisher,
     sides: (&Side, &Side),
-) -> (bool, bool)
-    requires first { (readers.0.0.list ≡ entrance.now.list)
-        × (readers.0.1.list ≡ entrance.now.list) }
-    requires second { (readers.1.0.list ≡ entrance.now.list)
-        × (readers.1.1.list ≡ entrance.now.list) }
-{
-    let (first, second) = readers;
+) -> (u32, bool) {
     let left = AtomicU32::new(4);
     let reading = &left;
     join(
         rt,
-        || -> bool
-            requires first { (first.0.list ≡ entrance.now.list)
-                × (first.1.list ≡ entrance.now.list) }
-            requires second { IsSync R.row × (second.0.list ≡ entrance.now.list)
-                × (second.1.list ≡ entrance.now.list) }
-        { read_by_four(rt, entrance, first, second, reading) },
+        || read_by_all(rt, readers, reading),
         move || exchange(rt, publisher, sides, reading),
     )
 }
@@ -245,22 +204,15 @@ fn no_set_is_mixed(rt: HostRuntime) {
     let (mut publisher, mut sets) = opened(&rt, alloc, &[], 4);
     let began = load_all(&rt, &mut publisher, &one);
     let entrance = sets.entrance();
-    let first = two_readers(&rt, &mut publisher, &mut sets, &entrance);
-    let second = two_readers(&rt, &mut publisher, &mut sets, &entrance);
-    let (read, changed) = read_beside(
-        &rt,
-        &entrance,
-        (first, second),
-        &mut publisher,
-        (&one, &two),
-    );
+    let mut readers = [
+        told_reader(&rt, &mut publisher, &mut sets, &entrance),
+        told_reader(&rt, &mut publisher, &mut sets, &entrance),
+        told_reader(&rt, &mut publisher, &mut sets, &entrance),
+        told_reader(&rt, &mut publisher, &mut sets, &entrance),
+    ];
+    let (read, changed) = read_beside(&rt, &mut readers[..], &mut publisher, (&one, &two));
     publisher.close(&rt);
-    same(
-        &rt,
-        (began, read, changed),
-        (true, true, true),
-        "all is right",
-    );
+    same(&rt, (began, read, changed), (true, 4, true), "all is right");
 }
 
 #[test]

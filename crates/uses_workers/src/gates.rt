@@ -1,4 +1,4 @@
-//! Gates that hold and stop workers, and the signals between threads.
+//! A gate that holds and stops workers, and the signals between threads.
 
 use ap_live::Gate;
 use std::sync::atomic::AtomicU64;
@@ -36,50 +36,51 @@ impl Sign {
     }
 }
 
-/// Holds the worker that begins call 3 until it is released.
+/// Holds the worker that begins one call until it is let go, by whom it may be or by the end of another call; stops a
+/// worker at a third call.
 #[derive(Drop)]
-pub struct Turnstile {
+pub struct Holding {
+    held: u64,
+    lets_go: u64,
+    stopped: u64,
+    /// The call that is held has begun.
     pub begun: Sign,
     pub let_go: Sign,
+    /// It was let go.
+    pub passed: Sign,
 }
 
-impl Gate for Turnstile {
-    fn begin(&self, call: u64) {
-        if call == 3 {
-            self.begun.give();
-            self.let_go.wait();
+impl Holding {
+    /// A gate that is about these calls: the held one, the one whose end lets it go, and the one at which it stops.
+    pub fn new(calls: (u64, u64, u64)) -> Holding {
+        let (held, lets_go, stopped) = calls;
+        Holding {
+            held,
+            lets_go,
+            stopped,
+            begun: Sign::new(),
+            let_go: Sign::new(),
+            passed: Sign::new(),
         }
     }
 }
 
-/// Holds call 1 until call 2 has ended.
-#[derive(Drop)]
-pub struct Meeting {
-    pub ended: Sign,
-    pub met: Sign,
-}
-
-impl Gate for Meeting {
+impl Gate for Holding {
     fn begin(&self, call: u64) {
-        if call == 1 {
-            self.ended.wait();
-            self.met.give();
+        if call == self.held {
+            self.begun.give();
+            self.let_go.wait();
+            self.passed.give();
         }
     }
 
     fn end(&self, call: u64) {
-        if call == 2 {
-            self.ended.give();
+        if call == self.lets_go {
+            self.let_go.give();
         }
     }
-}
 
-/// Stops a worker at call 3.
-#[derive(Clone, Copy)]
-pub struct StopAtThird;
-
-impl Gate for StopAtThird {
     fn stop(&self, call: u64) -> bool {
-        call == 3
+        call == self.stopped
     }
 }

@@ -8,8 +8,6 @@ mod books;
 #[cfg(test)]
 mod gates;
 #[cfg(test)]
-mod limits;
-#[cfg(test)]
 mod lines;
 #[cfg(test)]
 mod memory;

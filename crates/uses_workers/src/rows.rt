@@ -1,8 +1,8 @@
-//! Frames that are held while operators act, stopped workers, and sums over workers.
+//! Stories as tables: frames that are held while operators act, stopped workers, full queues, and sums over workers.
 
-use crate::gates::{Meeting, Sign, StopAtThird, Turnstile};
+use crate::gates::{Holding, Sign};
 use crate::same::same;
-use crate::scene::{puts, serve, tell};
+use crate::scene::{fill, puts, serve, tell};
 use ap_books::{Ledgers, Totals};
 use ap_live::{Fate, OpenGate, Tagged};
 use ap_locked::Journals;
@@ -10,8 +10,9 @@ use ap_model::Out;
 use bpf_regions::WordWidth;
 use live_scenes::{Chief, Hand, Scene, Story, publish};
 use std::alloc::Global;
+use std::process::Abort;
 use std::sync::Wait;
-use std::test::Fail;
+use std::thread::Threads;
 use versions::Publisher;
 
 /// Station A, of shard 2, and station B, of shard 3.
@@ -19,26 +20,51 @@ const A: [u8; 6] = [2, 0, 0, 0, 0, 0x0a];
 
 const B: [u8; 6] = [2, 0, 0, 0, 0, 0x0b];
 
-/// These numbers of events, of frames sent and of data passed up.
-fn counts(events: u64, sent: u64, up: u64) -> Totals {
-    Totals {
-        events,
-        sent,
-        up,
-        dropped: 0,
-        notes: 0,
-    }
+/// What one thread does before the others begin, and what it finds.
+#[derive(Clone, Copy)]
+enum Step {
+    /// Puts the frame of a station, a step and a call, as `puts`: 1, or 0 if it could not be put.
+    Put([u8; 6], u8, u64),
+    /// All workers serve: their fates.
+    Serve,
+    /// All workers serve by the story's gate: their fates.
+    ServeGated,
+    /// Publishes a program: 1, or 0 if it could not be published.
+    Publish(&'static str),
+    /// Takes the sum of word 0 of the workers' map.
+    Sum,
+    /// Fills a queue, as `fill`: how many frames it took.
+    Fill,
 }
 
-/// A station associates.
-fn associates<L: Ledgers + Journals, R: Wait>(
-    rt: &R,
-    alloc: Global,
-    scene: &mut Scene<'_, L>,
-    station: [u8; 6],
-) -> bool {
-    let put = puts(rt, alloc, scene, station, 0, 0) && puts(rt, alloc, scene, station, 1, 0);
-    put && serve(rt, alloc, scene, &OpenGate) == 11
+/// A story: its operators, the width of its maps' words, its steps with what each finds, whether workers serve in threads
+/// and an operator sends A away meanwhile, and which calls the gate is about.
+struct Row {
+    operators: usize,
+    width: WordWidth,
+    steps: &'static [(Step, u64)],
+    is_served: bool,
+    is_kicked: bool,
+    /// The call that is held, the call whose end lets it go, and the call at which a worker is stopped.
+    gate: (u64, u64, u64),
+    /// Whether a worker was held and let go, A was sent away, and A was refused after it.
+    signs: (bool, bool, bool),
+    /// The totals of events, of frames sent, and of data passed up.
+    totals: (u64, u64, u64),
+}
+
+/// A call that never comes.
+const NONE: u64 = u64::MAX;
+
+/// A story as it is told, with this many workers, and how many steps found something else.
+#[derive(Drop)]
+struct Told {
+    row: &'static Row,
+    workers: usize,
+    wrong: u64,
+    gate: Holding,
+    kicked: Sign,
+    refused: Sign,
 }
 
 /// Whether A is deauthenticated for this reason, and there is no other output.
@@ -63,27 +89,59 @@ fn is_sent_away(list: &[Tagged]) -> bool {
     }
 }
 
-/// A worker is held at a data frame of A. Meanwhile an operator sends A away.
-#[derive(Drop)]
-struct KickedMeanwhile {
-    gate: Turnstile,
-    kicked: Sign,
-    refused: Sign,
+/// The sum of word 0 of the workers' map.
+fn sum_of<L: Ledgers + Journals>(scene: &mut Scene<'_, L>) -> u64 {
+    match scene.chiefs.first_mut() {
+        Some(chief) => chief.sum(1, 0).unwrap_or(NONE),
+        None => NONE,
+    }
 }
 
-impl<R: Wait> Story<R> for KickedMeanwhile {
+/// What a step finds.
+fn found<L: Ledgers + Journals, R: Wait>(
+    rt: &R,
+    alloc: Global,
+    scene: &mut Scene<'_, L>,
+    publisher: &mut Publisher,
+    step: (&Step, WordWidth, &Holding),
+) -> u64 {
+    let (step, width, gate) = step;
+    match step {
+        Step::Put(station, step, call) => {
+            u64::from(puts(rt, alloc, scene, *station, *step, *call))
+        }
+        Step::Serve => serve(rt, alloc, scene, &OpenGate),
+        Step::ServeGated => serve(rt, alloc, scene, gate),
+        Step::Publish(text) => u64::from(publish(rt, alloc, publisher, text, width)),
+        Step::Sum => sum_of(scene),
+        Step::Fill => fill(rt, alloc, scene),
+    }
+}
+
+impl<R: Wait> Story<R> for Told {
     fn prepare<L: Ledgers + Journals>(
         &mut self,
         rt: &R,
         alloc: Global,
         scene: &mut Scene<'_, L>,
-        _publisher: &mut Publisher,
+        publisher: &mut Publisher,
     ) {
-        associates(rt, alloc, scene, A);
-        puts(rt, alloc, scene, A, 3, 3);
+        let row = self.row;
+        if scene.hands.len() != self.workers || scene.chiefs.len() != row.operators {
+            self.wrong = 100;
+        }
+        for (step, wanted) in row.steps {
+            let step = (step, row.width, &self.gate);
+            if found(rt, alloc, scene, publisher, step) != *wanted {
+                self.wrong = self.wrong.wrapping_add(1);
+            }
+        }
     }
 
     fn work<L: Ledgers + Journals>(&self, rt: &R, alloc: Global, hand: &mut Hand<'_, L>) {
+        if !self.row.is_served {
+            return;
+        }
         let mut list = Vec::new(alloc);
         let _ = hand.serve(rt, alloc, &self.gate, &mut list);
         if is_sent_away(list.as_slice()) {
@@ -92,6 +150,9 @@ impl<R: Wait> Story<R> for KickedMeanwhile {
     }
 
     fn operate<L: Ledgers + Journals>(&self, rt: &R, alloc: Global, chief: &mut Chief<'_, L>) {
+        if !self.row.is_kicked {
+            return;
+        }
         self.gate.begun.wait();
         if let Ok(outs) = chief.kick(rt, alloc, A, 1) {
             if sends_away(outs.as_slice(), 1) {
@@ -102,157 +163,126 @@ impl<R: Wait> Story<R> for KickedMeanwhile {
     }
 }
 
-#[test]
-fn a_kick_overtakes_a_frame_that_is_held(rt: HostRuntime) -> Result<(), Fail> {
-    for workers in [2, 8] {
-        let mut story = KickedMeanwhile {
-            gate: Turnstile {
-                begun: Sign::new(),
-                let_go: Sign::new(),
-            },
-            kicked: Sign::new(),
-            refused: Sign::new(),
-        };
-        let totals = tell(&rt, rt.alloc(), (workers, 1), WordWidth::Eight, &mut story);
-        same(&rt, story.kicked.is_given(), true, "the kick is answered");
-        same(&rt, story.refused.is_given(), true, "then A is refused");
-        same(&rt, totals, counts(4, 4, 0), "totals");
+/// A story is told with this many workers, and all is found that should be.
+fn is_told<R: Threads + Wait + Abort + Sync>(
+    rt: &R,
+    alloc: Global,
+    row: &'static Row,
+    workers: u32,
+) {
+    let mut story = Told {
+        row,
+        workers: workers as usize,
+        wrong: 0,
+        gate: Holding::new(row.gate),
+        kicked: Sign::new(),
+        refused: Sign::new(),
+    };
+    let totals = tell(rt, alloc, (workers, row.operators), row.width, &mut story);
+    let (events, sent, up) = row.totals;
+    let wanted = Totals {
+        events,
+        sent,
+        up,
+        dropped: 0,
+        notes: 0,
+    };
+    let passed = story.gate.passed.is_given();
+    let signs = (passed, story.kicked.is_given(), story.refused.is_given());
+    same(rt, story.wrong, 0, "steps that found something else");
+    same(rt, signs, row.signs, "held and let go, sent away, refused");
+    same(rt, totals, wanted, "totals");
+}
+
+/// The same with two workers, and with eight.
+fn are_told<R: Threads + Wait + Abort + Sync>(rt: &R, alloc: Global, rows: &'static [Row]) {
+    for row in rows {
+        is_told(rt, alloc, row, 2);
+        is_told(rt, alloc, row, 8);
     }
-    Ok(())
+}
+
+/// A worker is held at a data frame of A. Meanwhile an operator sends A away.
+static KICKED: [Row; 1] = [Row {
+    operators: 1,
+    width: WordWidth::Eight,
+    steps: &[
+        (Step::Put(A, 0, 0), 1),
+        (Step::Put(A, 1, 0), 1),
+        (Step::Serve, 11),
+        (Step::Put(A, 3, 3), 1),
+    ],
+    is_served: true,
+    is_kicked: true,
+    gate: (3, NONE, NONE),
+    signs: (true, true, true),
+    totals: (4, 4, 0),
+}];
+
+#[test]
+fn a_kick_overtakes_a_frame_that_is_held(rt: HostRuntime) {
+    are_told(&rt, rt.alloc(), &KICKED);
 }
 
 /// Call 1, of shard 2, is held until call 2, of shard 3, has ended.
-#[derive(Drop)]
-struct Met {
-    gate: Meeting,
-}
-
-impl<R: Wait> Story<R> for Met {
-    fn prepare<L: Ledgers + Journals>(
-        &mut self,
-        rt: &R,
-        alloc: Global,
-        scene: &mut Scene<'_, L>,
-        _publisher: &mut Publisher,
-    ) {
-        puts(rt, alloc, scene, A, 0, 1);
-        puts(rt, alloc, scene, B, 0, 2);
-    }
-
-    fn work<L: Ledgers + Journals>(&self, rt: &R, alloc: Global, hand: &mut Hand<'_, L>) {
-        let mut list = Vec::new(alloc);
-        let _ = hand.serve(rt, alloc, &self.gate, &mut list);
-    }
-}
+static MET: [Row; 1] = [Row {
+    operators: 1,
+    width: WordWidth::Eight,
+    steps: &[(Step::Put(A, 0, 1), 1), (Step::Put(B, 0, 2), 1)],
+    is_served: true,
+    is_kicked: false,
+    gate: (1, 2, NONE),
+    signs: (true, false, false),
+    totals: (2, 2, 0),
+}];
 
 #[test]
-fn a_frame_is_held_until_another_shard_has_served(rt: HostRuntime) -> Result<(), Fail> {
-    for workers in [2, 8] {
-        let mut story = Met {
-            gate: Meeting {
-                ended: Sign::new(),
-                met: Sign::new(),
-            },
-        };
-        let totals = tell(&rt, rt.alloc(), (workers, 1), WordWidth::Eight, &mut story);
-        same(&rt, story.gate.met.is_given(), true, "they meet");
-        same(&rt, totals, counts(2, 2, 0), "totals");
-    }
-    Ok(())
+fn a_frame_is_held_until_another_shard_has_served(rt: HostRuntime) {
+    are_told(&rt, rt.alloc(), &MET);
 }
 
 /// A worker is stopped at the third of five calls, and continues later or not.
-#[derive(Clone, Copy)]
-struct Stopped {
-    goes_on: bool,
-    first: u64,
-    rest: u64,
-}
-
-impl<R: Wait> Story<R> for Stopped {
-    fn prepare<L: Ledgers + Journals>(
-        &mut self,
-        rt: &R,
-        alloc: Global,
-        scene: &mut Scene<'_, L>,
-        _publisher: &mut Publisher,
-    ) {
-        for call in 1..6 {
-            puts(rt, alloc, scene, A, 0, call);
-        }
-        self.first = serve(rt, alloc, scene, &StopAtThird);
-        if self.goes_on {
-            self.rest = serve(rt, alloc, scene, &OpenGate);
-        }
-    }
-}
+static STOPPED: [Row; 2] = [
+    Row {
+        operators: 1,
+        width: WordWidth::Eight,
+        steps: &[
+            (Step::Put(A, 0, 1), 1),
+            (Step::Put(A, 0, 2), 1),
+            (Step::Put(A, 0, 3), 1),
+            (Step::Put(A, 0, 4), 1),
+            (Step::Put(A, 0, 5), 1),
+            (Step::ServeGated, 113),
+        ],
+        is_served: false,
+        is_kicked: false,
+        gate: (NONE, NONE, 3),
+        signs: (false, false, false),
+        totals: (2, 2, 0),
+    },
+    Row {
+        operators: 1,
+        width: WordWidth::Eight,
+        steps: &[
+            (Step::Put(A, 0, 1), 1),
+            (Step::Put(A, 0, 2), 1),
+            (Step::Put(A, 0, 3), 1),
+            (Step::Put(A, 0, 4), 1),
+            (Step::Put(A, 0, 5), 1),
+            (Step::ServeGated, 113),
+            (Step::Serve, 11),
+        ],
+        is_served: false,
+        is_kicked: false,
+        gate: (NONE, NONE, 3),
+        signs: (false, false, false),
+        totals: (4, 4, 0),
+    },
+];
 
 #[test]
-fn a_worker_is_stopped_and_goes_on(rt: HostRuntime) -> Result<(), Fail> {
-    for workers in [2, 8] {
-        for (goes_on, rest, events) in [(false, 0, 2), (true, 11, 4)] {
-            let mut story = Stopped {
-                goes_on,
-                first: 0,
-                rest: 0,
-            };
-            let totals = tell(&rt, rt.alloc(), (workers, 1), WordWidth::Eight, &mut story);
-            same(&rt, story.first, 113, "stopped at the third");
-            same(&rt, story.rest, rest, "the rest");
-            same(&rt, totals, counts(events, events, 0), "totals");
-        }
-    }
-    Ok(())
-}
-
-/// Some data of A and of B, each under a program, over maps of a width.
-#[derive(Clone, Copy)]
-struct Sent {
-    width: WordWidth,
-    of_a: (&'static str, u64),
-    of_b: (&'static str, u64),
-}
-
-/// Data of A and of B, and the sum of word 0 of the workers' map after it.
-#[derive(Clone, Copy)]
-struct Summed {
-    sent: Sent,
-    sum: u64,
-}
-
-/// Some data of a station, under a program.
-fn sends_under<L: Ledgers + Journals, R: Wait>(
-    rt: &R,
-    alloc: Global,
-    scene: &mut Scene<'_, L>,
-    publisher: &mut Publisher,
-    station: [u8; 6],
-    part: (&str, u64, WordWidth),
-) {
-    publish(rt, alloc, publisher, part.0, part.2);
-    for call in 0..part.1 {
-        puts(rt, alloc, scene, station, 3, call);
-    }
-    serve(rt, alloc, scene, &OpenGate);
-}
-
-impl<R: Wait> Story<R> for Summed {
-    fn prepare<L: Ledgers + Journals>(
-        &mut self,
-        rt: &R,
-        alloc: Global,
-        scene: &mut Scene<'_, L>,
-        publisher: &mut Publisher,
-    ) {
-        let Sent { width, of_a, of_b } = self.sent;
-        associates(rt, alloc, scene, A);
-        associates(rt, alloc, scene, B);
-        sends_under(rt, alloc, scene, publisher, A, (of_a.0, of_a.1, width));
-        sends_under(rt, alloc, scene, publisher, B, (of_b.0, of_b.1, width));
-        if let Some(chief) = scene.chiefs.first_mut() {
-            self.sum = chief.sum(1, 0).unwrap_or(0);
-        }
-    }
+fn a_worker_is_stopped_and_goes_on(rt: HostRuntime) {
+    are_told(&rt, rt.alloc(), &STOPPED);
 }
 
 const COUNTS: &str = "lddw r1, value 1 0\nmov r2, 1\natomic_add [r1+0], r2\nmov r0, 0\nexit\n";
@@ -261,36 +291,80 @@ const STORES_MOST: &str = "lddw r1, value 1 0\nmov r2, -1\nstxw [r1+0], r2\nmov 
 
 const STORES_2: &str = "lddw r1, value 1 0\nmov r2, 2\nstxw [r1+0], r2\nmov r0, 0\nexit\n";
 
-/// Each row with its sum, which is mod 2^32 for words of 4 bytes.
-const SENT: [(Sent, u64); 2] = [
-    (
-        Sent {
-            width: WordWidth::Eight,
-            of_a: (COUNTS, 3),
-            of_b: (COUNTS, 2),
-        },
-        5,
-    ),
-    (
-        Sent {
-            width: WordWidth::Four,
-            of_a: (STORES_MOST, 1),
-            of_b: (STORES_2, 1),
-        },
-        1,
-    ),
+/// Data of A and of B, each under a program. The sum is mod 2^32 for words of 4 bytes.
+static SUMMED: [Row; 2] = [
+    Row {
+        operators: 1,
+        width: WordWidth::Eight,
+        steps: &[
+            (Step::Put(A, 0, 0), 1),
+            (Step::Put(A, 1, 0), 1),
+            (Step::Serve, 11),
+            (Step::Put(B, 0, 0), 1),
+            (Step::Put(B, 1, 0), 1),
+            (Step::Serve, 11),
+            (Step::Publish(COUNTS), 1),
+            (Step::Put(A, 3, 0), 1),
+            (Step::Put(A, 3, 1), 1),
+            (Step::Put(A, 3, 2), 1),
+            (Step::Serve, 111),
+            (Step::Publish(COUNTS), 1),
+            (Step::Put(B, 3, 0), 1),
+            (Step::Put(B, 3, 1), 1),
+            (Step::Serve, 11),
+            (Step::Sum, 5),
+        ],
+        is_served: false,
+        is_kicked: false,
+        gate: (NONE, NONE, NONE),
+        signs: (false, false, false),
+        totals: (9, 4, 5),
+    },
+    Row {
+        operators: 1,
+        width: WordWidth::Four,
+        steps: &[
+            (Step::Put(A, 0, 0), 1),
+            (Step::Put(A, 1, 0), 1),
+            (Step::Serve, 11),
+            (Step::Put(B, 0, 0), 1),
+            (Step::Put(B, 1, 0), 1),
+            (Step::Serve, 11),
+            (Step::Publish(STORES_MOST), 1),
+            (Step::Put(A, 3, 0), 1),
+            (Step::Serve, 1),
+            (Step::Publish(STORES_2), 1),
+            (Step::Put(B, 3, 0), 1),
+            (Step::Serve, 1),
+            (Step::Sum, 1),
+        ],
+        is_served: false,
+        is_kicked: false,
+        gate: (NONE, NONE, NONE),
+        signs: (false, false, false),
+        totals: (6, 4, 2),
+    },
 ];
 
 #[test]
-fn words_of_all_workers_are_added_up(rt: HostRuntime) -> Result<(), Fail> {
-    for workers in [2, 8] {
-        for (sent, sum) in SENT {
-            let mut story = Summed { sent, sum: 0 };
-            let up = sent.of_a.1.wrapping_add(sent.of_b.1);
-            let totals = tell(&rt, rt.alloc(), (workers, 1), sent.width, &mut story);
-            same(&rt, story.sum, sum, "the sum");
-            same(&rt, totals, counts(up.wrapping_add(4), 4, up), "totals");
-        }
-    }
-    Ok(())
+fn words_of_all_workers_are_added_up(rt: HostRuntime) {
+    are_told(&rt, rt.alloc(), &SUMMED);
+}
+
+/// A queue is filled, and then served. All eight operators have their tokens.
+static FULL: [Row; 1] = [Row {
+    operators: 8,
+    width: WordWidth::Eight,
+    // The fates are 256 times the digit 1, mod 2^64.
+    steps: &[(Step::Fill, 256), (Step::Serve, 8198552921648689607)],
+    is_served: false,
+    is_kicked: false,
+    gate: (NONE, NONE, NONE),
+    signs: (false, false, false),
+    totals: (256, 256, 0),
+}];
+
+#[test]
+fn a_queue_that_nobody_serves_takes_256_events(rt: HostRuntime) {
+    are_told(&rt, rt.alloc(), &FULL);
 }

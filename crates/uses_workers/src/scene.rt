@@ -3,8 +3,10 @@
 use ap_books::{Ledgers, Totals};
 use ap_live::{Fate, Gate, Tagged};
 use ap_locked::Journals;
+use ap_model::Event;
+use ap_queues::Unserved;
 use bpf_regions::WordWidth;
-use live_scenes::{Scene, Story, data, joining, play, settings};
+use live_scenes::{Scene, Story, address, data, joining, play, settings};
 use std::alloc::Global;
 use std::process::Abort;
 use std::sync::Wait;
@@ -40,6 +42,44 @@ pub fn puts<L: Ledgers + Journals, R: Wait>(
         (Ok(event), Some(chief)) => chief.submit(rt, call, event).is_ok(),
         _ => false,
     }
+}
+
+/// The frame that fills a queue, of a station of shard 5.
+fn frame(alloc: Global) -> Option<Event> {
+    joining(alloc, address(0, 5), 0).ok()
+}
+
+/// Whether that frame was returned, with 61 and its shard.
+fn is_frame(alloc: Global, back: &Unserved) -> bool {
+    let Some(wanted) = frame(alloc) else {
+        return false;
+    };
+    match (&back.event, &wanted) {
+        (Event::Frame(bytes), Event::Frame(others)) => {
+            bytes.bytes() == others.bytes() && back.number() == 61 && back.shard == 5
+        }
+        _ => false,
+    }
+}
+
+/// One operator puts a frame until it is returned: how many were taken. 0 if it was not returned as it should be.
+pub fn fill<L: Ledgers + Journals, R: Wait>(
+    rt: &R,
+    alloc: Global,
+    scene: &mut Scene<'_, L>,
+) -> u64 {
+    let Some(chief) = scene.chiefs.first_mut() else {
+        return 0;
+    };
+    for taken in 0..1000 {
+        let Some(event) = frame(alloc) else {
+            return 0;
+        };
+        if let Err(back) = chief.submit(rt, taken, event) {
+            return if is_frame(alloc, &back) { taken } else { 0 };
+        }
+    }
+    0
 }
 
 /// The fates of these reports, a digit each, the first in front: 1 for decided, 2 for refused, 3 for not handled.

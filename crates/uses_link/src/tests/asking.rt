@@ -3,7 +3,8 @@
 ghost use Rattle.std.specs.Prelude.{◌≡◌};
 
 use crate::same::{holds, same};
-use crate::tests::{ASSOCIATION, AUTHENTICATION, DATA, SETUP, frame, shard, spelled};
+use crate::spelled::spelled;
+use crate::tests::{ASSOCIATION, AUTHENTICATION, DATA, SETUP, frame, shard};
 use ap_core::{AskLog, Event, Judge, Octets, Shard, shard_of};
 use bpf_regions::{Context, Frame, Hook};
 use mac_frame::{Address, Reason};
@@ -65,91 +66,98 @@ impl Judge for Watching<'_> {
 
 /// Frames of station `02000000000a` to shard 2, and the query about each: the hook, and from byte 6 on its number, the
 /// state, the identifier, the TID, a zero, and the hook's three numbers, low byte first; and the answer.
-const ASKED: [(&str, Option<(Hook, [u8; 12], u64)>); 12] = [
-    (AUTHENTICATION, None),
+static ASKED: &[(&str, &[Expected])] = &[
+    (AUTHENTICATION, &[]),
     (
         ASSOCIATION,
-        Some((
-            Hook::Association,
-            [1, 2, 0, 0, 255, 0, 1, 0, 10, 0, 0, 0],
-            5,
-        )),
+        &[Expected {
+            hook: Hook::Association,
+            context: [1, 2, 0, 0, 255, 0, 1, 0, 10, 0, 0, 0],
+            answer: 5,
+        }],
     ),
     (
         REASSOCIATION,
-        Some((
-            Hook::Association,
-            [1, 2, 0, 0, 255, 0, 1, 4, 11, 1, 1, 0],
-            0,
-        )),
+        &[Expected {
+            hook: Hook::Association,
+            context: [1, 2, 0, 0, 255, 0, 1, 4, 11, 1, 1, 0],
+            answer: 0,
+        }],
     ),
     (
         ASSOCIATION,
-        Some((
-            Hook::Association,
-            [1, 3, 2, 0, 255, 0, 1, 0, 10, 0, 0, 0],
-            0,
-        )),
+        &[Expected {
+            hook: Hook::Association,
+            context: [1, 3, 2, 0, 255, 0, 1, 0, 10, 0, 0, 0],
+            answer: 0,
+        }],
     ),
     (
         DATA,
-        Some((Hook::Data, [3, 3, 2, 0, 255, 0, 3, 0, 0, 0, 0, 0], 0)),
+        &[Expected {
+            hook: Hook::Data,
+            context: [3, 3, 2, 0, 255, 0, 3, 0, 0, 0, 0, 0],
+            answer: 0,
+        }],
     ),
     (
         SETUP,
-        Some((Hook::Addba, [2, 3, 2, 0, 0, 0, 8, 0, 0, 0, 100, 0], 64)),
+        &[Expected {
+            hook: Hook::Addba,
+            context: [2, 3, 2, 0, 0, 0, 8, 0, 0, 0, 100, 0],
+            answer: 64,
+        }],
     ),
     // Number 102, which is held; a duplicate; and a request for 103, which moves the window.
     (
         QOS_102,
-        Some((Hook::Data, [3, 3, 2, 0, 0, 0, 102, 0, 100, 0, 1, 0], 0)),
+        &[Expected {
+            hook: Hook::Data,
+            context: [3, 3, 2, 0, 0, 0, 102, 0, 100, 0, 1, 0],
+            answer: 0,
+        }],
     ),
-    (QOS_102, None),
-    (REQUEST_103, None),
+    (QOS_102, &[]),
+    (REQUEST_103, &[]),
     (
         QOS_103,
-        Some((Hook::Data, [3, 3, 2, 0, 0, 0, 103, 0, 103, 0, 1, 0], 0)),
+        &[Expected {
+            hook: Hook::Data,
+            context: [3, 3, 2, 0, 0, 0, 103, 0, 103, 0, 1, 0],
+            answer: 0,
+        }],
     ),
     // Another TID, without an agreement; and a frame for another access point.
     (
         QOS_OF_5,
-        Some((Hook::Data, [3, 3, 2, 0, 5, 0, 102, 0, 0, 0, 0, 0], 0)),
+        &[Expected {
+            hook: Hook::Data,
+            context: [3, 3, 2, 0, 5, 0, 102, 0, 0, 0, 0, 0],
+            answer: 0,
+        }],
     ),
-    (FOREIGN, None),
+    (FOREIGN, &[]),
 ];
 
-const REASSOCIATION: &str =
-    "20000000 020000000001 02000000000a 020000000001 2000 0104 0b01 020000000001 0003 6c6162 0104 82848b96";
+const REASSOCIATION: &str = "20000000 P S P 2000 0104 0b01 P N R";
 
-const QOS_102: &str = "88010000 020000000001 02000000000a 0200000000ff 6006 0000 61";
+const QOS_102: &str = "88010000 P S 0200000000ff 6006 0000 61";
 
-const QOS_103: &str = "88010000 020000000001 02000000000a 0200000000ff 7006 0000 61";
+const QOS_103: &str = "88010000 P S 0200000000ff 7006 0000 61";
 
-const QOS_OF_5: &str = "88010000 020000000001 02000000000a 0200000000ff 6006 0500 61";
+const QOS_OF_5: &str = "88010000 P S 0200000000ff 6006 0500 61";
 
-const REQUEST_103: &str = "84000000 020000000001 02000000000a 0400 7006";
+const REQUEST_103: &str = "84000000 P S 0400 7006";
 
-const FOREIGN: &str = "08010000 030000000001 02000000000a 0200000000ff 3000 68656c6c6f";
+const FOREIGN: &str = "08010000 030000000001 S 0200000000ff 3000 68656c6c6f";
 
-/// A frame to a shard leads to the expected query.
-fn asks(
-    rt: &impl Abort,
-    alloc: Global,
-    shard: &mut Shard,
-    digits: &str,
-    ask: Option<(Hook, [u8; 12], u64)>,
-) {
-    let expected = ask.map(|(hook, context, answer)| Expected {
-        hook,
-        context,
-        answer,
-    });
+/// A frame to a shard leads to the expected queries.
+fn asks(rt: &impl Abort, alloc: Global, shard: &mut Shard, digits: &str, expected: &[Expected]) {
     let bytes = spelled(rt, alloc, digits);
-    let octets = Octets::copy(alloc, &bytes).expect(rt, "memory");
-    let event = Event::Frame(octets);
+    let event = frame(rt, alloc, digits);
     let mut judge = Watching {
         frame: &bytes,
-        expected: expected.as_slice(),
+        expected,
         alike: true,
         asked: AskLog::new(),
     };
@@ -161,8 +169,8 @@ fn asks(
 fn judges_are_asked_about_each_frame(rt: HostRuntime) {
     let alloc = rt.alloc();
     let mut shard = shard(&rt, alloc, 2);
-    for (digits, ask) in ASKED.iter() {
-        asks(&rt, alloc, &mut shard, digits, *ask);
+    for (digits, expected) in ASKED {
+        asks(&rt, alloc, &mut shard, digits, expected);
     }
     // Freed by a call, since a shard has many parts.
     drop(shard);
@@ -176,12 +184,16 @@ fn events_concern_shards(rt: HostRuntime) {
     let station = Address::new([2, 0, 0, 0, 0, 15]);
     let reason = Reason::new(1);
     let whole = frame(&rt, alloc, DATA);
-    let cut = frame(&rt, alloc, "08010000 020000000001 0200000000");
-    same(&rt, shard_of(&whole), Some(2), "data");
-    same(&rt, shard_of(&cut), Some(0), "cut data");
-    same(&rt, shard_of(&Event::Tick(3)), None, "a tick");
+    let cut = frame(&rt, alloc, "08010000 P 0200000000");
     let kick = Event::Kick { station, reason };
-    same(&rt, shard_of(&kick), Some(7), "a command");
+    let found = [
+        shard_of(&whole),
+        shard_of(&cut),
+        shard_of(&Event::Tick(3)),
+        shard_of(&kick),
+    ];
+    let wanted = [Some(2), Some(0), None, Some(7)];
+    same(&rt, found, wanted, "data, cut data, a tick, a command");
 }
 
 fn is_sent<T: Send>(_value: &T) {}

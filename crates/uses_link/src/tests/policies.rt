@@ -3,48 +3,38 @@
 ghost use Rattle.std.specs.Prelude.{◌≡◌};
 ghost use Rattle.bpf_helpers.specs.Hooked.{IsFitting};
 
-use crate::same::{holds, same};
+use crate::same::same;
+use crate::tests::Line::{self, Frame, PassesUp, Sends};
 use crate::tests::setting::{NO_TEXTS, Seated, Texts, admitted, end, entered, two_seats};
-use crate::tests::{ASSOCIATION, AUTHENTICATION, DATA, SETUP, config, field_at, frame, shard};
-use ap_core::{Event, ListJudge, Out, Shard, Up};
+use crate::tests::{
+    ASSOCIATED, ASSOCIATION, AUTHENTICATION, DATA, DECLINED, Results, SET_UP, SETUP, are_told,
+    comes, config, events, frame, shard,
+};
+use ap_core::{Event, Out, Shard};
 use bpf_helpers::{MapTables, WorkerState, WorkerView, run_hook};
-use bpf_regions::{Context, Frame, Hook};
+use bpf_regions::{Context, Frame as Received, Hook};
 use hook_judge::CountedState;
-use mac_frame::Address;
 use std::alloc::Global;
 use std::process::Abort;
 use std::sync::Wait;
 use uses_policies::{Policies, decide, serve};
 
-/// The outputs of each event of a list, or None if it was refused.
-type Results = Vec<Option<Vec<Out>>>;
-
-/// The station authenticates, associates, sets up an agreement and sends data.
-fn events(rt: &impl Abort, alloc: Global) -> [Event; 4] {
-    [
-        frame(rt, alloc, AUTHENTICATION),
-        frame(rt, alloc, ASSOCIATION),
-        frame(rt, alloc, SETUP),
-        frame(rt, alloc, DATA),
-    ]
-}
-
 /// The results of these events under a worker's policies.
 fn served(
     rt: &impl Abort,
     alloc: Global,
+    events: &[Event],
     policies: Policies<'_, '_>,
     state: &mut CountedState,
 ) -> Results
     requires seats { IsFitting policies.maps.now policies.worker state.old.seats }
 {
     let config = config(rt, alloc);
-    let events = events(rt, alloc);
-    serve(alloc, &config, &events, policies, state).expect(rt, "memory")
+    serve(alloc, &config, events, policies, state).expect(rt, "memory")
 }
 
 /// The results of these events under the programs of these texts.
-fn led<R: Wait + Abort>(rt: &R, alloc: Global, texts: Texts<'_>) -> Results {
+fn led<R: Wait + Abort>(rt: &R, alloc: Global, texts: Texts<'_>, events: &[Event]) -> Results {
     let Seated {
         maps: tables,
         mut state,
@@ -57,145 +47,127 @@ fn led<R: Wait + Abort>(rt: &R, alloc: Global, texts: Texts<'_>) -> Results {
         maps,
         worker: 0,
     };
-    let results = served(rt, alloc, policies, &mut state);
+    let results = served(rt, alloc, events, policies, &mut state);
     end(rt, publisher, held);
     results
 }
 
-/// The outputs of the event at this index.
-fn outs_at(results: &[Option<Vec<Out>>], place: usize) -> Option<&[Out]> {
-    Some(results.get(place)?.as_ref()?.as_slice())
-}
+/// A hook, the text of its only program, if there is one, and the outputs of the last event that its program judges.
+type Policy = (Hook, Option<&'static str>, &'static [Line<'static>]);
 
-/// The only frame that is passed up.
-fn passed(outs: &[Out]) -> Option<&Up> {
-    match outs {
-        [Out::Up(up)] => Some(up),
-        _ => None,
-    }
-}
+static POLICIES: &[Policy] = &[
+    // Without programs the tables decide.
+    (Hook::Association, None, &[Sends(ASSOCIATED)]),
+    (Hook::Addba, None, &[Sends(SET_UP)]),
+    (Hook::Data, None, &[PassesUp(None, 3, 0, "68656c6c6f")]),
+    // Association programs give statuses.
+    (
+        Hook::Association,
+        Some("mov r0, 0\nexit"),
+        &[Sends(ASSOCIATED)],
+    ),
+    (
+        Hook::Association,
+        Some("mov r0, 1\nexit"),
+        &[Sends("10000000 S P P 0000 0100 0100 0000 R")],
+    ),
+    (
+        Hook::Association,
+        Some("mov r0, 10\nexit"),
+        &[Sends("10000000 S P P 0000 0100 0a00 0000 R")],
+    ),
+    (
+        Hook::Association,
+        Some("mov r0, 12\nexit"),
+        &[Sends("10000000 S P P 0000 0100 0c00 0000 R")],
+    ),
+    (
+        Hook::Association,
+        Some("mov r0, 17\nexit"),
+        &[Sends("10000000 S P P 0000 0100 1100 0000 R")],
+    ),
+    (
+        Hook::Association,
+        Some("mov r0, 37\nexit"),
+        &[Sends("10000000 S P P 0000 0100 2500 0000 R")],
+    ),
+    (
+        Hook::Association,
+        Some("mov r0, 5\nexit"),
+        &[Sends("10000000 S P P 0000 0100 0100 0000 R")],
+    ),
+    // ADDBA programs give sizes.
+    (Hook::Addba, Some("mov r0, 0\nexit"), &[Sends(DECLINED)]),
+    (
+        Hook::Addba,
+        Some("mov r0, 3\nexit"),
+        &[Sends("d0000000 S P P 0000 0301 07 0000 c200 0000")],
+    ),
+    (Hook::Addba, Some("mov r0, 200\nexit"), &[Sends(SET_UP)]),
+    // Data programs mark and drop.
+    (
+        Hook::Data,
+        Some("mov r0, 0\nexit"),
+        &[PassesUp(None, 3, 0, "68656c6c6f")],
+    ),
+    (
+        Hook::Data,
+        Some("mov r0, 1280\nexit"),
+        &[PassesUp(None, 3, 0, "68656c6c6f")],
+    ),
+    (
+        Hook::Data,
+        Some("mov r0, 1282\nexit"),
+        &[PassesUp(None, 3, 5, "68656c6c6f")],
+    ),
+    (Hook::Data, Some("mov r0, 1281\nexit"), &[]),
+    (Hook::Data, Some("mov r0, 1283\nexit"), &[]),
+];
 
-/// The mark of the only frame that is passed up.
-fn mark_of(outs: &[Out]) -> Option<u8> {
-    Some(passed(outs)?.mark)
-}
+/// The station authenticates and associates, sets up an agreement, and sends data.
+static EVENTS: &[Line<'static>] = &[
+    Frame(AUTHENTICATION),
+    Frame(ASSOCIATION),
+    Frame(SETUP),
+    Frame(DATA),
+];
 
-/// The same, after the event at this index.
-fn mark_at(results: &[Option<Vec<Out>>], place: usize) -> Option<u8> {
-    mark_of(outs_at(results, place)?)
-}
-
-#[test]
-fn data_is_passed_up_with_its_mark(rt: HostRuntime) {
-    let texts = Texts {
-        frames: Some("mov r0, 1282\nexit"),
-        ..NO_TEXTS
+/// The program of a text for a hook, and how many of those events come.
+fn texts_for(hook: Hook, text: Option<&str>) -> (Texts<'_>, usize) {
+    let [association, addba, frames] = match hook {
+        Hook::Association => [text, None, None],
+        Hook::Addba => [None, text, None],
+        Hook::Data => [None, None, text],
     };
-    let results = led(&rt, rt.alloc(), texts);
-    let outs = outs_at(&results, 3).expect(&rt, "an event that is handled");
-    let up = passed(outs).expect(&rt, "data");
-    let source = Address::new([2, 0, 0, 0, 0, 10]);
-    let destination = Address::new([2, 0, 0, 0, 0, 255]);
-    let addresses = (up.source, up.destination);
-    same(&rt, addresses, (source, destination), "addresses");
-    holds(&rt, up.tid.is_none(), "no TID");
-    let numbers = (up.number.number(), up.mark);
-    same(&rt, numbers, (3, 5), "number and mark");
-    same(&rt, up.body.bytes(), b"hello".as_slice(), "body");
+    let texts = Texts {
+        association,
+        addba,
+        frames,
+    };
+    let count = match hook {
+        Hook::Association => 2,
+        Hook::Addba => 3,
+        Hook::Data => 4,
+    };
+    (texts, count)
 }
 
-/// The results of the events: the status of the association; the status and the parameters of the agreement, with the
-/// size from bit 6 on; and the mark of the data.
-#[derive(Clone, Copy)]
-struct Answers {
-    status: Option<u16>,
-    agreement: (Option<u16>, Option<u16>),
-    mark: Option<u8>,
-}
-
-/// The same, under the programs of these texts.
-fn answered<R: Wait + Abort>(rt: &R, alloc: Global, texts: Texts<'_>) -> Answers {
-    let results = led(rt, alloc, texts);
-    Answers {
-        status: field_at(&results, 1, 26),
-        agreement: (field_at(&results, 2, 27), field_at(&results, 2, 29)),
-        mark: mark_at(&results, 3),
-    }
+/// The last of the events leads to these outputs.
+fn decides<R: Wait + Abort>(rt: &R, alloc: Global, policy: &Policy) {
+    let (hook, text, wanted) = policy;
+    let what = text.unwrap_or("no program");
+    let (texts, count) = texts_for(*hook, *text);
+    let lines = EVENTS.get(..count).expect(rt, what);
+    let events = events(rt, alloc, lines);
+    let mut results = led(rt, alloc, texts, &events);
+    let last = results.pop().unwrap_or(None).expect(rt, what);
+    are_told(rt, alloc, wanted, &last, what);
 }
 
 #[test]
-fn without_programs_the_tables_decide(rt: HostRuntime) {
-    let found = answered(&rt, rt.alloc(), NO_TEXTS);
-    same(&rt, found.status, Some(0), "status");
-    same(&rt, found.agreement, (Some(0), Some(0x0202)), "agreement");
-    same(&rt, found.mark, Some(0), "mark");
-}
-
-/// Association programs, and the status that each gives.
-const STATUSES: &[(&str, u16)] = &[
-    ("mov r0, 0\nexit", 0),
-    ("mov r0, 1\nexit", 1),
-    ("mov r0, 10\nexit", 10),
-    ("mov r0, 12\nexit", 12),
-    ("mov r0, 17\nexit", 17),
-    ("mov r0, 37\nexit", 37),
-    ("mov r0, 5\nexit", 1),
-];
-
-#[test]
-fn association_programs_give_statuses(rt: HostRuntime) {
-    for (text, status) in STATUSES {
-        let texts = Texts {
-            association: Some(text),
-            ..NO_TEXTS
-        };
-        let found = answered(&rt, rt.alloc(), texts);
-        same(&rt, found.status, Some(*status), text);
-    }
-}
-
-/// Agreement programs, and the status and the parameters that each gives.
-const AGREEMENTS: &[(&str, u16, u16)] = &[
-    ("mov r0, 0\nexit", 37, 0x0002),
-    ("mov r0, 3\nexit", 0, 0x00c2),
-    ("mov r0, 200\nexit", 0, 0x0202),
-];
-
-#[test]
-fn addba_programs_give_sizes(rt: HostRuntime) {
-    for (text, status, parameters) in AGREEMENTS {
-        let texts = Texts {
-            addba: Some(text),
-            ..NO_TEXTS
-        };
-        let found = answered(&rt, rt.alloc(), texts);
-        same(
-            &rt,
-            found.agreement,
-            (Some(*status), Some(*parameters)),
-            text,
-        );
-    }
-}
-
-/// Data programs, and the mark that each gives, None if it drops.
-const MARKS: &[(&str, Option<u8>)] = &[
-    ("mov r0, 0\nexit", Some(0)),
-    ("mov r0, 1280\nexit", Some(0)),
-    ("mov r0, 1282\nexit", Some(5)),
-    ("mov r0, 1281\nexit", None),
-    ("mov r0, 1283\nexit", None),
-];
-
-#[test]
-fn data_programs_mark_and_drop(rt: HostRuntime) {
-    for (text, mark) in MARKS {
-        let texts = Texts {
-            frames: Some(text),
-            ..NO_TEXTS
-        };
-        let found = answered(&rt, rt.alloc(), texts);
-        same(&rt, found.mark, *mark, text);
+fn programs_decide_as_their_tables_say(rt: HostRuntime) {
+    for policy in POLICIES {
+        decides(&rt, rt.alloc(), policy);
     }
 }
 
@@ -205,19 +177,20 @@ const LOAD: &str = "lddw r1, value 0 0\nldxdw r0, [r1+0]\nexit";
 /// Adds 1 to word 0 of map 0.
 const COUNT: &str = "lddw r1, value 0 0\nmov r2, 1\natomic_add [r1+0], r2\nmov r0, 0\nexit";
 
-/// Handles a frame at a shard, with the verdicts of the tables.
-fn comes(rt: &impl Abort, alloc: Global, shard: &mut Shard, digits: &str) {
-    let event = frame(rt, alloc, digits);
-    let mut judge = ListJudge::new(&[]);
-    drop(shard.handle(alloc, &event, &mut judge).expect(rt, "memory"));
-}
-
 /// A shard at which the station is associated.
 fn joined(rt: &impl Abort, alloc: Global) -> Shard {
     let mut shard = shard(rt, alloc, 2);
-    comes(rt, alloc, &mut shard, AUTHENTICATION);
-    comes(rt, alloc, &mut shard, ASSOCIATION);
+    comes(rt, alloc, &mut shard, Frame(AUTHENTICATION));
+    comes(rt, alloc, &mut shard, Frame(ASSOCIATION));
     shard
+}
+
+/// The mark of the only frame that is passed up.
+fn mark_of(outs: &[Out]) -> Option<u8> {
+    match outs {
+        [Out::Up(up)] => Some(up.mark),
+        _ => None,
+    }
 }
 
 /// The mark of a data frame that is passed up under a worker's policies.
@@ -241,7 +214,7 @@ fn count(rt: &impl Abort, alloc: Global, maps: &[MapTables], state: &mut WorkerS
     requires seats { IsFitting maps.now 0 state.old.seats }
 {
     let count = admitted(rt, alloc, COUNT, Hook::Data, maps);
-    let received = Frame::new(&[]).expect(rt, "a frame");
+    let received = Received::new(&[]).expect(rt, "a frame");
     let view = WorkerView {
         maps,
         worker: 0,
@@ -282,22 +255,33 @@ fn marks<R: Wait + Abort>(
     [first, second]
 }
 
-#[test]
-fn a_store_between_two_events_changes_the_verdict(rt: HostRuntime) {
-    let mut shard = joined(&rt, rt.alloc());
-    let marks = marks(&rt, rt.alloc(), &mut shard, Some(LOAD));
-    same(&rt, marks, [Some(0), None], "marks");
-    // Freed by a call, since a shard has many parts.
-    drop(shard);
+/// Data programs, or none, one after the other at one shard, and the marks that each leads to.
+static MARKS: &[(Option<&str>, [Option<u8>; 2])] = &[
+    // A store between two events changes the verdict.
+    (Some(LOAD), [Some(0), None]),
+    // The shard goes on under another set, and under one without programs.
+    (Some("mov r0, 1282\nexit"), [Some(5); 2]),
+    (None, [Some(0); 2]),
+];
+
+/// A program leads to these marks.
+fn marks_so<R: Wait + Abort>(
+    rt: &R,
+    alloc: Global,
+    shard: &mut Shard,
+    text: Option<&str>,
+    wanted: [Option<u8>; 2],
+) {
+    let found = marks(rt, alloc, shard, text);
+    same(rt, found, wanted, text.unwrap_or("no program"));
 }
 
 #[test]
-fn a_shard_goes_on_under_another_set(rt: HostRuntime) {
+fn a_shard_goes_on_under_changing_maps_and_sets(rt: HostRuntime) {
     let mut shard = joined(&rt, rt.alloc());
-    let marked = marks(&rt, rt.alloc(), &mut shard, Some("mov r0, 1282\nexit"));
-    same(&rt, marked, [Some(5); 2], "marked");
-    let plain = marks(&rt, rt.alloc(), &mut shard, None);
-    same(&rt, plain, [Some(0); 2], "without a program");
+    for (text, wanted) in MARKS {
+        marks_so(&rt, rt.alloc(), &mut shard, *text, *wanted);
+    }
     // Freed by a call, since a shard has many parts.
     drop(shard);
 }

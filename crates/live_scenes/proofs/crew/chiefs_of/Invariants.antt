@@ -1,13 +1,13 @@
 use Rattle.std.proofs.Common.{◌≡◌, ◌+◌, ◌≤◌, vec_len, vec_capacity}
 use Rattle.std.specs.List.{All}
-use Rattle.live_scenes.specs.Rights.{IsChief}
+use Rattle.live_scenes.specs.Rights.{IsChiefBoxed}
 use Rattle.live_scenes.proofs.crew.chiefs_of.Given as goal
 
 -- the remaining tokens, and capacity for them
 abbrev pub invariant-tokens : goal.invariant-tokens
 invariant-tokens g l =
     record {
-      own : All (IsChief l.ap) l.tokens.items;
+      own : All (IsChiefBoxed l.ap) l.tokens.items;
       many : vec_len l.chiefs + vec_len l.tokens ≡ vec_len l.fn.tokens;
       room : vec_len l.fn.tokens ≤ vec_capacity l.chiefs;
     }

@@ -1,5 +1,9 @@
-use Rattle.std.proofs.Common.{◌∙◌, arith}
-use Rattle.live_scenes.specs.Rights.{IsChief}
+use Rattle.std.proofs.Common.{◌≡◌, ◌∙◌, Ok, arith}
+use Rattle.ap_shards.proofs.Results.{if_ok, on_ok}
+use Rattle.ap_shards.specs.Tokens.{IsNewcomer}
+use Rattle.ap_live.specs.Opening.{GaveToken}
+use Rattle.ap_live.specs.Tokens.{IsOperator, Operator}
+use Rattle.live_scenes.specs.Rights.{IsChief, IsChiefBoxed}
 use Rattle.live_scenes.proofs.OneByOne.{all_and_one}
 use Rattle.live_scenes.proofs.crew.hire_operators.Goals as goal
 
@@ -9,15 +13,16 @@ loop-hired-preserved g c =
     let b = c.operator.new.self in
     let old = c.loop-hired.tokens.items in
     let new = c.push_reserved.new.self.items in
-    let token = c.in-Ok.token in
-    let given = c.in-Ok.ensures.given in
+    let token = c.in_ok-token.token in
+    let made : c.operator.result ≡ Ok token.value = c.in_ok-token.ensures in
+    let given = on_ok (GaveToken c.loop-hired.left c.operator.new.left) c.operator.result token.value made c.operator.ensures.given in
     let stock = c.loop-hired.left.shards in
     record {
       left = c.operator.ensures.left;
-      own = all_and_one (IsChief a) (IsChief b) old new token
-          (λ w h. record { own = c.tokens_law.ensures.operators a b w c.operator.ensures.keeps h.own; part = h.part })
+      own = all_and_one (IsChiefBoxed a) (IsChiefBoxed b) old new token
+          (λ w h. record { own = c.tokens_law.ensures.operators a b w.value c.operator.ensures.keeps h.own; part = h.part })
           c.loop-hired.invariant.own
-          (record { own = c.in-Ok.ensures.own; part = c.newcomers_law.ensures.parts stock token.shards c.in-Ok.ensures.new })
+          (record { own = if_ok (IsOperator b) c.operator.result token.value made c.operator.ensures.own; part = c.newcomers_law.ensures.parts stock token.value.shards (if_ok (λ (t : Operator). IsNewcomer stock t.shards) c.operator.result token.value made c.operator.ensures.new) })
           c.push_reserved.ensures.items;
       many = omega (arith, c.push_reserved.ensures.len, c.loop-hired.invariant.many);
       room = omega (arith, c.push_reserved.ensures.capacity, c.loop-hired.invariant.room);

@@ -4,4 +4,4 @@ use Rattle.live_scenes.proofs.hands.Chief.sum.Goals as goal
 pub invariant_of-self : goal.invariant_of-self
 invariant_of-self g c =
     let was = c.args.self.now in
-    record { is_chief = chief_reached was.ap.now was.token c.sum.new.operator was.is_chief c.sum.ensures.own c.sum.ensures.same }
+    record { is_chief = chief_reached was.ap.now was.token.value c.deref_mut.result.now c.sum.new.operator c.deref_mut.ensures.value was.is_chief c.sum.ensures.own c.sum.ensures.same }

@@ -1,8 +1,6 @@
-use Rattle.std.proofs.Common.{◌≡◌, ◌<◌, IfOk, ℕ, ◌+◌, ◌-◌, ◌*◌, ◌≤◌, length}
 use Rattle.ap_model.specs.AccessPoint.{InPlace}
 use Rattle.ap_core.specs.AccessPoints.{rules_of}
-use Rattle.ap_core.specs.Shards.{ruled}
-use Rattle.uses_link.proofs.tests.refusals.refused_events_at_all_shards_may_come_again.Given as goal
+use Rattle.uses_link.proofs.tests.refusals.results_at_all.Given as goal
 
 abbrev pub invariant-loop-event : goal.invariant-loop-event
 invariant-loop-event g l =
