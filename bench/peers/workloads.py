@@ -63,6 +63,7 @@ def main():
         "loop": loop(300000),
         "loop8": loop8(120000),
         "filter": port_filter(sys.argv[1:] == ["dpdk"]),
+        "shortest": (slot(MOV, 0, 0, 0, 1) + slot(EXIT), 2),
     }
     for name, (code, steps) in programs.items():
         print(name, code.hex(), steps)

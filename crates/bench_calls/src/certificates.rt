@@ -1,26 +1,26 @@
-//! How long `verify`, `certificate` and `check` take for a program, and how long its certificate is.
+//! How long `verify`, `certificate` and `check` take for the program in a file, and how long its certificate is.
 
-use crate::asked::Task;
-use crate::certified::{Code, code_of, program_of};
-use crate::programs::accepted;
-use crate::watch::Watch;
+use crate::asked::Asked;
+use crate::programs::verified;
+use crate::timing::{nanos_since, now};
+use apd_config::read_configuration;
 use bpf_cert::{certificate, check};
-use bpf_decode::Program;
+use bpf_decode::{Program, decode};
 use bpf_machine::Accepted;
-use bpf_regions::Hook;
+use bpf_regions::{Hook, Shape, Shapes};
 use std::alloc::Global;
-use std::io;
-use std::rt::{Clock, Runtime};
+use std::fs;
+use std::rt::{Clock, Files};
 
-/// What was measured of one program: the nanoseconds of each call, the budget, the certificate's length in bytes, and
-/// the budget that the check returned, or the number of its refusal.
+/// What was measured: the nanoseconds of each call, the certificate's length in bytes, and the budgets that `verify`
+/// and `check` return.
 #[derive(Clone, Copy)]
 struct Measured {
-    verify: u128,
-    certificate: u128,
-    check: u128,
-    budget: u32,
+    verify: u64,
+    certificate: u64,
+    check: u64,
     bytes: usize,
+    budget: u32,
     checked: u32,
 }
 
@@ -36,118 +36,110 @@ impl Measured {
     }
 }
 
-/// The budget that the check of a certificate returns, or the number of its refusal.
-fn budget_or_number(alloc: Global, program: Program, certificate: &[u8]) -> u32 {
-    match check(alloc, program, Hook::Data, certificate) {
-        Ok(accepted) => accepted.budget(),
-        Err(fault) => u32::from(fault.number()),
-    }
+/// The bytes of a code, and the shapes of its maps.
+#[derive(Drop)]
+struct Code {
+    bytes: Vec<u8>,
+    shapes: Vec<Shape>,
 }
 
-/// Checks a certificate of a code, and returns the budget or refusal, and how many nanoseconds it took.
-fn checked<R: Clock>(
-    rt: &R,
-    alloc: Global,
-    code: &Code,
-    certificate: &[u8],
-) -> Option<(u32, u128)> {
+/// The bytes in a file's hex digits, which white space may separate.
+fn bytes_in<R: Files + AllocGlobal>(rt: &R, alloc: Global, path: &str) -> Option<Vec<u8>> {
+    let mut digits = fs::read(rt, path).ok()?;
+    digits.retain(|byte| !byte.is_ascii_whitespace());
+    hex::decode(alloc, digits).ok()
+}
+
+/// The shapes of a configuration's maps.
+fn shapes_in<R: Files + AllocGlobal>(rt: &R, alloc: Global, path: &str) -> Option<Vec<Shape>> {
+    let text = fs::read(rt, path).ok()?;
+    let configuration = read_configuration(alloc, text.as_slice()).ok()?;
+    Vec::from_slice(alloc, configuration.maps.as_slice()).ok()
+}
+
+/// The program of a code.
+fn program_of(alloc: Global, code: &Code) -> Option<Program> {
+    let shapes = Shapes::new(code.shapes.clone().ok()?)?;
+    decode(alloc, code.bytes.as_slice(), shapes).ok()
+}
+
+/// Checks a certificate. The budget, and the nanoseconds.
+fn checked<R: Clock>(rt: &R, alloc: Global, code: &Code, bytes: &[u8]) -> Option<(u32, u64)> {
     let program = program_of(alloc, code)?;
-    let watch = Watch::start(rt);
-    let checked = budget_or_number(alloc, program, certificate);
-    Some((checked, watch.nanos(rt)))
+    let start = now(rt);
+    let accepted = check(alloc, program, Hook::Data, bytes).ok()?;
+    Some((accepted.budget(), nanos_since(rt, start)))
 }
 
-/// Makes the certificate of a code that took `verify` nanoseconds to verify, and checks it. None if it has none.
-fn measure_accepted<R: Clock>(
+/// Makes the certificate of a program that took `verify` nanoseconds to verify, and checks it.
+fn certified<R: Clock>(
     rt: &R,
     alloc: Global,
     code: &Code,
     accepted: &Accepted,
-    verify: u128,
+    verify: u64,
 ) -> Option<Measured> {
-    let watch = Watch::start(rt);
+    let start = now(rt);
     let bytes = certificate(alloc, accepted).ok()?;
-    let certificate = watch.nanos(rt);
-    let (checked, check) = checked(rt, alloc, code, &bytes)?;
+    let certificate = nanos_since(rt, start);
+    let (checked, check) = checked(rt, alloc, code, bytes.as_slice())?;
     Some(Measured {
         verify,
         certificate,
         check,
-        budget: accepted.budget(),
         bytes: bytes.len(),
+        budget: accepted.budget(),
         checked,
     })
 }
 
-/// Verifies the program of a code, makes its certificate and checks that. None if it isn't accepted.
+/// Verifies the program of a code, makes its certificate and checks that. None if one of them refuses it.
 fn measure<R: Clock>(rt: &R, alloc: Global, code: &Code) -> Option<Measured> {
-    let program = program_of(alloc, code);
-    let watch = Watch::start(rt);
-    let accepted = accepted(alloc, program)?;
-    let nanos = watch.nanos(rt);
-    measure_accepted(rt, alloc, code, &accepted, nanos)
+    let (accepted, verify) = verified(rt, alloc, program_of(alloc, code)?)?;
+    certified(rt, alloc, code, &accepted, verify)
 }
 
 /// Measures a code `times` times, and keeps the least times.
 fn measure_often<R: Clock>(rt: &R, alloc: Global, code: &Code, times: u64) -> Option<Measured> {
     let mut least = measure(rt, alloc, code)?;
-    for _time in 1..times {
+    for _ in 1..times {
         least = least.least(measure(rt, alloc, code)?);
     }
     Some(least)
 }
 
-fn print_measured<R: Eprint>(rt: &R, name: &str, found: &Measured) -> io::Result<()> {
-    eprintln!(rt;
-        "{name}: budget {}, checked {}; {} bytes; verify {} ns, certificate {} ns, check {} ns",
+fn print_measured<R: Eprint>(rt: &R, found: &Measured) {
+    let _ = eprintln!(rt;
+        "budget {}, checked {}; {} bytes; verify {} ns, certificate {} ns, check {} ns",
         found.budget, found.checked, found.bytes, found.verify, found.certificate, found.check
-    )
+    );
 }
 
-/// Measures a code `times` times, and prints the result.
-fn report<R: Clock + Eprint>(
+/// The code in a file of hex digits, with the maps of a configuration, if one is named.
+fn code_in<R: Files + AllocGlobal>(
     rt: &R,
     alloc: Global,
-    name: &str,
-    code: &Code,
-    times: u64,
-) -> io::Result<()> {
-    match measure_often(rt, alloc, code, times) {
-        Some(found) => print_measured(rt, name, &found),
-        None => eprintln!(rt; "{name}: no program that is admitted"),
-    }
+    file: &str,
+    configuration: Option<&str>,
+) -> Option<Code> {
+    let shapes = match configuration {
+        Some(path) => shapes_in(rt, alloc, path)?,
+        None => Vec::new(alloc),
+    };
+    let bytes = bytes_in(rt, alloc, file)?;
+    Some(Code { bytes, shapes })
 }
 
-/// Measures the named program `times` times: a loop and joins have `turns` iterations.
-fn report_named<R: Runtime + AllocGlobal>(
+/// Prints the least times for a program of as many as the first number says. The words after it: the file of its hex
+/// digits, and the configuration that has its maps. None if there is none that is accepted.
+pub fn print_times<R: Clock + Eprint + Files + AllocGlobal>(
     rt: &R,
     alloc: Global,
-    name: &str,
-    turns: u32,
-    times: u64,
-) -> io::Result<()> {
-    match code_of(rt, alloc, name, turns)? {
-        Some(code) => report(rt, alloc, name, &code, times),
-        None => eprintln!(rt; "{name}: no program"),
-    }
-}
-
-/// Measures the programs of a task as often as it says. The defaults are a loop and joins, once.
-pub fn print_times<R: Runtime + AllocGlobal>(
-    rt: &R,
-    alloc: Global,
-    task: &Task<'_>,
-) -> io::Result<()> {
-    let turns = task.size.choose(1000, 100);
-    let times = task.number(0).unwrap_or(1);
-    if task.names_none() {
-        report_named(rt, alloc, "loop", turns, times)?;
-        report_named(rt, alloc, "joins", turns, times)?;
-    }
-    for word in task.words() {
-        if task.names(word.as_str()) {
-            report_named(rt, alloc, word.as_str(), turns, times)?;
-        }
-    }
-    Ok(())
+    asked: Asked<'_>,
+) -> Option<()> {
+    let file = asked.word(1).unwrap_or("policy.hex");
+    let code = code_in(rt, alloc, file, asked.word(2))?;
+    let found = measure_often(rt, alloc, &code, asked.number(0, 1, 1))?;
+    print_measured(rt, &found);
+    Some(())
 }

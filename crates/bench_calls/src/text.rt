@@ -1,14 +1,13 @@
 //! How long it takes to assemble 16384 lines, decode them and write them as text again.
 
 use crate::programs::of_code;
-use crate::watch::Watch;
+use crate::timing::{now, print_since};
 use bpf_text::{assemble, disassemble};
 use std::alloc::{AllocError, Global};
-use std::io;
 use std::rt::Clock;
 
 /// Eight lines of different kinds, one slot each.
-const LINES: &str = "mov r0, 1
+static LINES: &str = "mov r0, 1
 add32 r1, -5
 stxdw [r10-8], r2
 ldxb r0, [r1+24]
@@ -27,61 +26,23 @@ fn text(alloc: Global) -> Result<String, AllocError> {
     Ok(text)
 }
 
-/// What was measured: the microseconds of each step, the number of slots, and whether the written text is the assembled
-/// one.
-#[derive(Clone, Copy)]
-struct Measured {
-    assemble: u128,
-    decode: u128,
-    disassemble: u128,
-    slots: usize,
-    alike: bool,
-}
-
-/// Decodes a code that took so long to assemble, and writes it as text again. None if that fails.
-fn measure_back<R: Clock>(
-    rt: &R,
-    alloc: Global,
-    text: &str,
-    code: &[u8],
-    assemble: u128,
-) -> Option<Measured> {
-    let watch = Watch::start(rt);
+/// Prints how long decoding a code takes, and writing its program. The sums are how many slots and how many bytes come
+/// out. None if an allocation fails.
+fn print_back<R: Clock + Eprint>(rt: &R, alloc: Global, code: &[u8]) -> Option<()> {
+    let start = now(rt);
     let program = of_code(alloc, code)?;
-    let decode = watch.nanos(rt) / 1000;
-    let watch = Watch::start(rt);
-    let again = disassemble(alloc, &program).ok()?;
-    let disassemble = watch.nanos(rt) / 1000;
-    Some(Measured {
-        assemble,
-        decode,
-        disassemble,
-        slots: code.len() / 8,
-        alike: again.as_str() == text,
-    })
+    print_since(rt, "decode", start, 1, program.len() as u64);
+    let start = now(rt);
+    let text = disassemble(alloc, &program).ok()?;
+    print_since(rt, "disassemble", start, 1, text.len() as u64);
+    Some(())
 }
 
-/// Assembles a text, and measures the way back. None if that fails.
-fn measure<R: Clock>(rt: &R, alloc: Global, text: &str) -> Option<Measured> {
-    let watch = Watch::start(rt);
-    let code = assemble(alloc, text).ok()?;
-    let assemble = watch.nanos(rt) / 1000;
-    measure_back(rt, alloc, text, code.as_slice(), assemble)
-}
-
-fn print<R: Eprint>(rt: &R, found: &Measured) -> io::Result<()> {
-    let outcome = if found.alike { "again" } else { "differs" };
-    eprintln!(rt;
-        "assemble: {} us\ndecode: {} us\ndisassemble: {} us\n{} slots, the text {outcome}",
-        found.assemble, found.decode, found.disassemble, found.slots
-    )
-}
-
-/// Prints how long each step takes.
-pub fn print_times<R: Clock + Eprint>(rt: &R, alloc: Global) -> io::Result<()> {
-    let text = text(alloc)?;
-    match measure(rt, alloc, text.as_str()) {
-        Some(found) => print(rt, &found),
-        None => eprintln!(rt; "the text isn't assembled, decoded and written again"),
-    }
+/// Prints how long each step takes. None if an allocation fails.
+pub fn print_times<R: Clock + Eprint>(rt: &R, alloc: Global) -> Option<()> {
+    let text = text(alloc).ok()?;
+    let start = now(rt);
+    let code = assemble(alloc, text.as_str()).ok()?;
+    print_since(rt, "assemble", start, 1, code.len() as u64);
+    print_back(rt, alloc, code.as_slice())
 }

@@ -1,8 +1,21 @@
-//! Queues that are filled, and then served by all workers at once, repeatedly.
+//! Queues that are filled with 256 events each, and then served by all workers at once, repeatedly.
+//!
+//! In each round a worker waits until the queues are full and all workers have arrived, and then serves its own queue
+//! until that is empty, without waiting for anybody. It notes how many events that were, and the nanoseconds from its
+//! first take to the end. Two rates are printed, in events a second:
+//!
+//! - of each worker the events of all rounds, divided by the sum of its own times; and the sum of these quotients. So
+//!   many events the workers serve while their queues are full;
+//! - all events, divided by the sum of the times of the rounds, each from the first worker's first take until the
+//!   slowest has ended. So the time counts in which workers that have ended wait for the slowest.
+//!
+//! The thread that fills the queues sleeps while they are served, for at least a millisecond, so that it takes no
+//! processor from a worker.
 
-use crate::loads::{Load, nanos_of};
+use crate::programs::{POLICIES, put_in_force};
 use crate::returned::Returned;
 use crate::stations::{event, join_all};
+use crate::timing::{nanos_since, now, rate};
 use ap_books::Ledgers;
 use ap_live::OpenGate;
 use ap_locked::Journals;
@@ -13,28 +26,29 @@ use std::rt::Clock;
 use std::sync::Wait;
 use std::sync::atomic::AtomicU64;
 use std::sync::atomic::Ordering::SeqCst;
-use std::thread;
-use std::thread::Threads;
-use std::time::{Duration, Instant};
+use std::thread::{Threads, sleep, yield_now};
+use std::time::Duration;
 use versions::Publisher;
 
 /// How many events a queue holds.
 const ROOM: u64 = 256;
 
-/// How long the submitter sleeps between two looks, in microseconds.
-const NAP: u64 = 100;
-
-/// A load that is measured with filled queues, and counters by which its threads wait for each other: how many rounds
-/// are filled, and how many times a worker met the others, or has served.
+/// How many rounds, of how many workers, under which program; by which counters the threads wait for each other; and
+/// what was measured.
 #[derive(Drop)]
 struct Filled {
-    load: Load,
+    text: &'static str,
     workers: u64,
+    rounds: u64,
+    /// How many rounds are filled, and how many times a worker met the others, or has served.
     filled: AtomicU64,
     met: AtomicU64,
     ended: AtomicU64,
+    /// How many events were served, and in how many nanoseconds, the waiting for the slowest included.
     served: AtomicU64,
     nanos: AtomicU64,
+    /// The sum of the workers' own rates.
+    own: AtomicU64,
     returned: Returned,
 }
 
@@ -44,39 +58,33 @@ fn await_sign<R: Wait>(rt: &R, sign: &AtomicU64, far: u64) {
         if sign.load(SeqCst) >= far {
             return;
         }
-        thread::yield_now();
+        yield_now();
     }
 }
 
 /// Waits likewise, asleep meanwhile.
 fn await_asleep<R: Wait + Clock>(rt: &R, sign: &AtomicU64, far: u64) {
     for _ in rt.forever() {
+        sleep(rt, Duration::from_millis(1));
         if sign.load(SeqCst) >= far {
             return;
         }
-        thread::sleep(rt, Duration::from_micros(NAP));
     }
 }
 
 impl Filled {
-    fn new(alloc: Global, load: Load, workers: u32) -> Filled {
+    fn new(alloc: Global, workers: u32, rounds: u64, text: &'static str) -> Filled {
         Filled {
-            load,
+            text,
             workers: u64::from(workers),
+            rounds,
             filled: AtomicU64::new(0),
             met: AtomicU64::new(0),
             ended: AtomicU64::new(0),
             served: AtomicU64::new(0),
             nanos: AtomicU64::new(0),
+            own: AtomicU64::new(0),
             returned: Returned::new(alloc),
-        }
-    }
-
-    fn measured(&self) -> Load {
-        Load {
-            served: self.served.load(SeqCst),
-            nanos: self.nanos.load(SeqCst),
-            ..self.load
         }
     }
 
@@ -87,37 +95,35 @@ impl Filled {
         await_sign(rt, &self.met, self.workers.wrapping_mul(round));
     }
 
-    /// Notes how many events a worker has served in a round. The first worker adds the time until all have served.
-    fn note<R: Wait + Clock>(
+    /// A worker serves its queue in a round. How many events, and the nanoseconds of its own. The first worker also
+    /// adds the time until all have served. The reports are handed back after the time is taken.
+    fn serve<B: Ledgers + Journals, R: Wait + Clock>(
         &self,
         rt: &R,
-        worker: u8,
-        events: usize,
+        alloc: Global,
+        hand: &mut Hand<'_, B>,
         round: u64,
-        start: Option<Instant>,
-    ) {
-        self.served.fetch_add(events as u64, SeqCst);
+    ) -> (u64, u64) {
+        let mut list = Vec::new(alloc);
+        self.meet(rt, round);
+        let start = now(rt);
+        let _ = hand.serve(rt, alloc, &OpenGate, &mut list);
+        let nanos = nanos_since(rt, start);
         self.ended.fetch_add(1, SeqCst);
-        if worker == 0 {
+        if hand.number == 0 {
             await_sign(rt, &self.ended, self.workers.wrapping_mul(round));
-            self.add_time(rt, start);
+            self.nanos.fetch_add(nanos_since(rt, start), SeqCst);
         }
-    }
-
-    fn add_time<R: Clock>(&self, rt: &R, start: Option<Instant>) {
-        if let Some(start) = start {
-            if let Ok(spent) = start.elapsed(rt) {
-                self.nanos.fetch_add(nanos_of(spent), SeqCst);
-            }
-        }
+        let events = list.len() as u64;
+        self.returned.put(rt, list);
+        (events, nanos)
     }
 
     /// Reports that all queues are filled for another round, and waits until all workers have served it. Frees what
     /// they have handed back.
     fn end_round<R: Wait + Clock>(&self, rt: &R, alloc: Global) {
-        let filled = self.filled.fetch_add(1, SeqCst);
-        let all = self.workers.wrapping_mul(filled.wrapping_add(1));
-        await_asleep(rt, &self.ended, all);
+        let filled = self.filled.fetch_add(1, SeqCst).wrapping_add(1);
+        await_asleep(rt, &self.ended, self.workers.wrapping_mul(filled));
         self.returned.free(rt, alloc);
     }
 }
@@ -130,27 +136,27 @@ impl<R: Wait + Clock> Story<R> for Filled {
         scene: &mut Scene<'_, B>,
         publisher: &mut Publisher,
     ) {
-        if !self.load.policy.publish(rt, alloc, publisher) || !join_all(rt, alloc, scene) {
-            self.load.size = 0;
+        if !put_in_force(rt, alloc, publisher, self.text) || !join_all(rt, alloc, scene) {
+            self.rounds = 0;
         }
     }
 
-    /// Serves the worker's queue in each round. The reports are handed back after the time is taken.
+    /// Serves the worker's queue in each round, and adds the worker's own rate.
     fn work<B: Ledgers + Journals>(&self, rt: &R, alloc: Global, hand: &mut Hand<'_, B>) {
-        for round in 1..self.load.size.saturating_add(1) {
-            let mut list = Vec::new(alloc);
-            self.meet(rt, round);
-            let start = Instant::now(rt).ok();
-            let _ = hand.serve(rt, alloc, &OpenGate, &mut list);
-            self.note(rt, hand.number, list.len(), round, start);
-            self.returned.put(rt, list);
+        let (mut events, mut nanos) = (0u64, 0u64);
+        for round in 1..self.rounds.saturating_add(1) {
+            let (more, longer) = self.serve(rt, alloc, hand, round);
+            events = events.wrapping_add(more);
+            nanos = nanos.wrapping_add(longer);
         }
+        self.served.fetch_add(events, SeqCst);
+        self.own.fetch_add(rate(events, nanos), SeqCst);
     }
 
     /// Fills all queues, repeatedly, with data of the stations alternating.
     fn operate<B: Ledgers + Journals>(&self, rt: &R, alloc: Global, chief: &mut Chief<'_, B>) {
         let many = self.workers.wrapping_mul(ROOM).max(1);
-        for index in 0..self.load.size.saturating_mul(many) {
+        for index in 0..self.rounds.saturating_mul(many) {
             let place = index % many;
             if let Some(event) = event(alloc, index) {
                 let _ = chief.submit(rt, place, event);
@@ -162,15 +168,37 @@ impl<R: Wait + Clock> Story<R> for Filled {
     }
 }
 
-/// Measures a load with `workers` workers.
-pub fn measured<R: Threads + Wait + Clock + Sync>(
+/// Measures so many rounds of so many workers under a program, and prints the rates. None if an allocation fails.
+fn report<R: Threads + Wait + Clock + Eprint + Sync>(
     rt: &R,
     alloc: Global,
     workers: u32,
-    load: Load,
-) -> Option<Load> {
+    rounds: u64,
+    policy: (&str, &'static str),
+) -> Option<()> {
+    let (name, text) = policy;
     let settings = settings(alloc, workers, WordWidth::Eight)?;
-    let mut filled = Filled::new(alloc, load, workers);
+    let mut filled = Filled::new(alloc, workers, rounds, text);
     play(rt, alloc, settings, 1, &mut filled)?;
-    Some(filled.measured())
+    let served = filled.served.load(SeqCst);
+    let _ = eprintln!(rt;
+        "workers {workers}, {name}, filled: {} events a second, {} with the wait for the slowest, of {served}",
+        filled.own.load(SeqCst),
+        rate(served, filled.nanos.load(SeqCst))
+    );
+    Some(())
+}
+
+/// Prints the rates of so many rounds under each program and by 1, 2 and 4 workers. None if an allocation fails.
+pub fn print_rates<R: Threads + Wait + Clock + Eprint + Sync>(
+    rt: &R,
+    alloc: Global,
+    rounds: u64,
+) -> Option<()> {
+    for policy in &POLICIES {
+        for workers in [1, 2, 4] {
+            report(rt, alloc, workers, rounds, *policy)?;
+        }
+    }
+    Some(())
 }

@@ -6,16 +6,14 @@ use std::alloc::Global;
 use std::sync::Wait;
 use versions::Publisher;
 
-/// A program for data, or none.
-#[derive(Clone, Copy)]
-pub struct Policy {
-    pub name: &'static str,
-    text: Option<&'static str>,
-}
-
-/// R0 is 0 for QoS data with LLC/SNAP, IPv4 and UDP to port 53, and else 1. It tests the frame's end first. The events
-/// are such data.
-const FILTER: &str = "mov r4, r1
+/// A name and the text of a program for data, which is empty if there is no program. The filter: R0 is 0 for QoS data
+/// with LLC/SNAP, IPv4 and UDP to port 53, as the events are, and else 1; it tests the frame's end first. The counters
+/// add 1 to word 0 of a map that all workers share, or of one that each has for itself.
+pub static POLICIES: [(&str, &str); 4] = [
+    ("no program", ""),
+    (
+        "port filter",
+        "mov r4, r1
 add r4, 58
 jgt r4, r2, +23
 ldxb r2, [r1+26]
@@ -43,48 +41,29 @@ mov r0, 0
 exit
 mov r0, 1
 exit
-";
-
-const SHARED: &str = "lddw r1, value 0 0
+",
+    ),
+    (
+        "shared counter",
+        "lddw r1, value 0 0
 mov r2, 1
 atomic_add [r1+0], r2
 mov r0, 0
 exit
-";
-
-const OWN: &str = "lddw r1, value 1 0
+",
+    ),
+    (
+        "counter of each worker",
+        "lddw r1, value 1 0
 mov r2, 1
 atomic_add [r1+0], r2
 mov r0, 0
 exit
-";
-
-/// No program, and the programs.
-pub const POLICIES: [Policy; 4] = [
-    Policy {
-        name: "no program",
-        text: None,
-    },
-    Policy {
-        name: "port filter",
-        text: Some(FILTER),
-    },
-    Policy {
-        name: "shared counter",
-        text: Some(SHARED),
-    },
-    Policy {
-        name: "counter of each worker",
-        text: Some(OWN),
-    },
+",
+    ),
 ];
 
-impl Policy {
-    /// Publishes the program, if there is one. False if it is refused.
-    pub fn publish<R: Wait>(self, rt: &R, alloc: Global, publisher: &mut Publisher) -> bool {
-        match self.text {
-            Some(text) => publish(rt, alloc, publisher, text, WordWidth::Eight),
-            None => true,
-        }
-    }
+/// Publishes the program of a text, if there is one. False if it is refused.
+pub fn put_in_force<R: Wait>(rt: &R, alloc: Global, publisher: &mut Publisher, text: &str) -> bool {
+    text.is_empty() || publish(rt, alloc, publisher, text, WordWidth::Eight)
 }

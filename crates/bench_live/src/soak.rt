@@ -1,15 +1,13 @@
-//! The soak of `live_scenes`, as long as the task says.
+//! The soak of `live_scenes`, of any length.
 
-use anyhow::{Result, bail};
+use crate::timing::{nanos_since, now};
 use ap_books::Totals;
 use bpf_regions::WordWidth;
 use live_scenes::{Found, Soak, play, settings};
 use std::alloc::Global;
-use std::io;
 use std::rt::Clock;
 use std::sync::Wait;
 use std::thread::Threads;
-use std::time::Instant;
 
 /// Runs the soak with `events` data frames. Returns what it found, and the totals; None if an allocation fails.
 fn run_soak<R: Threads + Wait + Clock + Sync>(
@@ -24,30 +22,30 @@ fn run_soak<R: Threads + Wait + Clock + Sync>(
 }
 
 /// Prints what a soak found, and its milliseconds.
-fn report<R: Eprint>(rt: &R, found: &Found, millis: u128) -> io::Result<()> {
-    eprintln!(rt;
+fn print_found<R: Eprint>(rt: &R, found: &Found, millis: u64) {
+    let _ = eprintln!(rt;
         "soak: {} events, {} commands, {} publications, {} passed up, {} dropped, {millis} ms",
         found.served.events,
         found.acted.events,
         found.published,
         found.served.up,
         found.served.dropped
-    )
+    );
 }
 
-/// Runs the soak with `events` data frames, and prints what it found.
-pub fn print_found<R: Threads + Wait + Clock + Eprint + Sync>(
+/// Runs the soak with `events` data frames, and prints what it found. None if something is wrong, or an allocation
+/// fails.
+pub fn report<R: Threads + Wait + Clock + Eprint + Sync>(
     rt: &R,
     alloc: Global,
     events: u64,
-) -> Result<()> {
-    let start = Instant::now(rt)?;
-    let Some((found, totals)) = run_soak(rt, alloc, events) else {
-        bail!("no memory");
-    };
-    report(rt, &found, start.elapsed(rt)?.as_millis())?;
-    match found.fault(totals) {
-        Some(fault) => bail!("the soak: {fault}"),
-        None => Ok(()),
+) -> Option<()> {
+    let start = now(rt);
+    let (found, totals) = run_soak(rt, alloc, events)?;
+    print_found(rt, &found, nanos_since(rt, start) / 1_000_000);
+    if let Some(fault) = found.fault(totals) {
+        let _ = eprintln!(rt; "the soak: {fault}");
+        return None;
     }
+    Some(())
 }

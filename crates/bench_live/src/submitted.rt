@@ -1,8 +1,10 @@
-//! One submitter beside the workers.
+//! One submitter beside the workers. The rate is of all events, in the time from the submitter's start until the last
+//! worker has served all.
 
-use crate::loads::{Load, nanos_of};
+use crate::programs::{POLICIES, put_in_force};
 use crate::returned::Returned;
 use crate::stations::{event, join_all};
+use crate::timing::{nanos_since, now, rate};
 use ap_books::Ledgers;
 use ap_live::{OpenGate, Tagged};
 use ap_locked::Journals;
@@ -10,31 +12,32 @@ use ap_model::Event;
 use bpf_regions::WordWidth;
 use live_scenes::{Chief, Hand, Scene, Story, play, settings};
 use std::alloc::Global;
+use std::mem;
 use std::rt::Clock;
 use std::sync::atomic::AtomicU64;
 use std::sync::atomic::Ordering::SeqCst;
 use std::sync::{Mutex, Wait};
-use std::thread::Threads;
+use std::thread::{Threads, yield_now};
 use std::time::Instant;
-use std::{mem, thread};
 use versions::Publisher;
 
 /// How many events a worker serves before it hands their reports back.
 const MANY: usize = 1024;
 
-/// A load that is measured with a submitter.
+/// How many events, under which program, and what was measured.
 #[derive(Drop)]
 struct Submitted {
-    load: Load,
+    text: &'static str,
+    count: u64,
     /// What is to be submitted, the last first.
     events: Mutex<Vec<Event>>,
-    /// When the submitter began.
-    start: Mutex<Option<Instant>>,
+    /// When the story began, and how many nanoseconds after that the submitter began, and the last worker ended.
+    start: Option<Instant>,
+    begun: AtomicU64,
+    ended: AtomicU64,
     /// 0 once all is submitted.
     submitting: AtomicU64,
     served: AtomicU64,
-    /// The time from the submitter's start until the last worker had served all.
-    nanos: Mutex<u64>,
     returned: Returned,
 }
 
@@ -49,59 +52,40 @@ fn events_of(alloc: Global, count: u64) -> Option<Vec<Event>> {
 }
 
 impl Submitted {
-    fn new(alloc: Global, load: Load) -> Submitted {
+    fn new(alloc: Global, count: u64, text: &'static str, start: Option<Instant>) -> Submitted {
         Submitted {
-            load,
+            text,
+            count,
             events: Mutex::new(Vec::new(alloc)),
-            start: Mutex::new(None),
+            start,
+            begun: AtomicU64::new(0),
+            ended: AtomicU64::new(0),
             submitting: AtomicU64::new(1),
             served: AtomicU64::new(0),
-            nanos: Mutex::new(0),
             returned: Returned::new(alloc),
         }
     }
 
-    fn measured<R: Wait>(&self, rt: &R) -> Load {
-        Load {
-            served: self.served.load(SeqCst),
-            nanos: *self.nanos.lock(rt),
-            ..self.load
-        }
-    }
-
-    /// Notes how many events a worker has served. Yields if there was none and more may come.
-    fn note(&self, events: usize, over: bool) {
+    /// A worker serves its queue once, and hands the list back if it is long. True if no more events come.
+    fn serve<B: Ledgers + Journals, R: Wait>(
+        &self,
+        rt: &R,
+        alloc: Global,
+        hand: &mut Hand<'_, B>,
+        list: &mut Vec<Tagged>,
+    ) -> bool {
+        let over = self.submitting.load(SeqCst) == 0;
+        let before = list.len();
+        let refused = hand.serve(rt, alloc, &OpenGate, list).is_err();
+        let events = list.len().saturating_sub(before);
         self.served.fetch_add(events as u64, SeqCst);
         if events == 0 && !over {
-            thread::yield_now();
+            yield_now();
         }
-    }
-
-    /// Hands a list back if it is long, and begins another.
-    fn hand_back<R: Wait>(&self, rt: &R, alloc: Global, list: &mut Vec<Tagged>) {
         if list.len() >= MANY {
-            let full = mem::replace(list, Vec::new(alloc));
-            self.returned.put(rt, full);
+            self.returned.put(rt, mem::replace(list, Vec::new(alloc)));
         }
-    }
-
-    /// Takes what is to be submitted, and notes the submitter's start.
-    fn begin<R: Wait + Clock>(&self, rt: &R, alloc: Global) -> Vec<Event> {
-        let events = mem::replace(&mut *self.events.lock(rt), Vec::new(alloc));
-        *self.start.lock(rt) = Instant::now(rt).ok();
-        events
-    }
-
-    /// Notes that a worker has served all.
-    fn note_end<R: Wait + Clock>(&self, rt: &R) {
-        let start = *self.start.lock(rt);
-        let Some(start) = start else {
-            return;
-        };
-        if let Ok(spent) = start.elapsed(rt) {
-            let mut nanos = self.nanos.lock(rt);
-            *nanos = (*nanos).max(nanos_of(spent));
-        }
+        refused || (over && events == 0)
     }
 }
 
@@ -113,10 +97,10 @@ impl<R: Wait + Clock> Story<R> for Submitted {
         scene: &mut Scene<'_, B>,
         publisher: &mut Publisher,
     ) {
-        if !self.load.policy.publish(rt, alloc, publisher) || !join_all(rt, alloc, scene) {
+        if !put_in_force(rt, alloc, publisher, self.text) || !join_all(rt, alloc, scene) {
             return;
         }
-        if let Some(events) = events_of(alloc, self.load.size) {
+        if let Some(events) = events_of(alloc, self.count) {
             *self.events.lock(rt) = events;
         }
     }
@@ -125,23 +109,18 @@ impl<R: Wait + Clock> Story<R> for Submitted {
     fn work<B: Ledgers + Journals>(&self, rt: &R, alloc: Global, hand: &mut Hand<'_, B>) {
         let mut list = Vec::new(alloc);
         for _ in rt.forever() {
-            let over = self.submitting.load(SeqCst) == 0;
-            let before = list.len();
-            let refused = hand.serve(rt, alloc, &OpenGate, &mut list).is_err();
-            let events = list.len().saturating_sub(before);
-            self.note(events, over);
-            if refused || (over && events == 0) {
+            if self.serve(rt, alloc, hand, &mut list) {
                 break;
             }
-            self.hand_back(rt, alloc, &mut list);
         }
-        self.note_end(rt);
+        self.ended.store(nanos_since(rt, self.start), SeqCst);
         self.returned.put(rt, list);
     }
 
     /// Submits all events.
     fn operate<B: Ledgers + Journals>(&self, rt: &R, alloc: Global, chief: &mut Chief<'_, B>) {
-        let mut events = self.begin(rt, alloc);
+        let mut events = mem::replace(&mut *self.events.lock(rt), Vec::new(alloc));
+        self.begun.store(nanos_since(rt, self.start), SeqCst);
         for number in 1..u32::MAX {
             let Some(event) = events.pop() else {
                 break;
@@ -155,15 +134,40 @@ impl<R: Wait + Clock> Story<R> for Submitted {
     }
 }
 
-/// Measures a load with `workers` workers.
-pub fn measured<R: Threads + Wait + Clock + Sync>(
+/// Measures so many events by so many workers under a program, and prints the rate. None if an allocation fails.
+fn report<R: Threads + Wait + Clock + Eprint + Sync>(
     rt: &R,
     alloc: Global,
     workers: u32,
-    load: Load,
-) -> Option<Load> {
+    count: u64,
+    policy: (&str, &'static str),
+) -> Option<()> {
+    let (name, text) = policy;
     let settings = settings(alloc, workers, WordWidth::Eight)?;
-    let mut submitted = Submitted::new(alloc, load);
+    let mut submitted = Submitted::new(alloc, count, text, now(rt));
     play(rt, alloc, settings, 1, &mut submitted)?;
-    Some(submitted.measured(rt))
+    let served = submitted.served.load(SeqCst);
+    let nanos = submitted
+        .ended
+        .load(SeqCst)
+        .saturating_sub(submitted.begun.load(SeqCst));
+    let events = rate(served, nanos);
+    let _ = eprintln!(rt;
+        "workers {workers}, {name}, submitted: {events} events a second, of {served}"
+    );
+    Some(())
+}
+
+/// Prints the rates of so many events under each program and by 1, 2 and 4 workers. None if an allocation fails.
+pub fn print_rates<R: Threads + Wait + Clock + Eprint + Sync>(
+    rt: &R,
+    alloc: Global,
+    count: u64,
+) -> Option<()> {
+    for policy in &POLICIES {
+        for workers in [1, 2, 4] {
+            report(rt, alloc, workers, count, *policy)?;
+        }
+    }
+    Some(())
 }
