@@ -11,7 +11,7 @@ use arrayvec::ArrayVec;
 use bpf_decode::Program;
 use bpf_regions::{Context, Frame};
 use bpf_tagged::perform::perform_slot;
-use bpf_tagged::{Machine, Port, Stepped};
+use bpf_tagged::{Input, Machine, Port, Stepped};
 
 /// Fetches and performs the machine's next instruction.
 pub fn step<P: Port>(
@@ -31,7 +31,12 @@ pub fn step<P: Port>(
 {
     let _short = program.len();
     let slot = program.insn_at(machine.pc);
-    perform_slot(program.shapes(), frame, context, slot, machine, port)
+    let input = Input {
+        shapes: program.shapes(),
+        frame,
+        context,
+    };
+    perform_slot(input, slot, machine, port)
 }
 
 /// Keeps the note, if any, if it is among the first 16.

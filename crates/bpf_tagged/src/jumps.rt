@@ -13,7 +13,7 @@ use crate::{Machine, Stepped};
 use bpf_insn::{Compare, Reg, Source};
 use bpf_regions::Value;
 use bpf_values::causes;
-use bpf_values::comparisons::is_taken;
+use bpf_values::comparisons::{Operand, is_taken};
 use bpf_words::word_of_int;
 
 fn jump_target(pc: usize, offset: i32) -> Option<usize>
@@ -22,13 +22,6 @@ fn jump_target(pc: usize, offset: i32) -> Option<usize>
 {
     let to = pc as i64 + 1 + i64::from(offset);
     if to < 0 { None } else { Some(to as usize) }
-}
-
-/// A source's value, and whether it is the immediate 0.
-#[derive(Clone, Copy)]
-struct Operand {
-    value: Value,
-    zero: bool,
 }
 
 fn operand_of(machine: &Machine, source: Source) -> Operand
@@ -112,8 +105,8 @@ pub fn perform_branch(
         machine.old machine.new }
 {
     let a = read(machine, test.dst);
-    let Operand { value, zero } = operand_of(machine, test.source);
-    match is_taken(test.compare, test.wide, frame_length, zero, a, value) {
+    let b = operand_of(machine, test.source);
+    match is_taken(test.compare, test.wide, frame_length, a, b) {
         Ok(jumps) => {
             if jumps {
                 let to = jump_target(machine.pc, i32::from(offset));

@@ -15,7 +15,7 @@ use bpf_model::Place;
 use bpf_regions::{MapOp, Region, Value};
 use bpf_values::bytes::{load_in, loaded, read_number};
 use bpf_values::causes;
-use bpf_values::places::{place_of, with_offset};
+use bpf_values::places::{Span, place_of, with_offset};
 
 /// A load: its number of bytes, whether it sign-extends, its destination, and the value it goes through.
 #[derive(Clone, Copy)]
@@ -128,16 +128,13 @@ pub fn perform_load<P: Port>(
         Err(cause) => return Stepped::Faulted(cause),
     };
     let at = with_offset(target.base, offset);
-    let depth = machine.stack.len();
-    match place_of(
-        input.shapes,
-        input.frame,
-        input.context,
-        depth,
-        target.region,
+    let span = Span {
+        region: target.region,
         at,
-        load.size,
-    ) {
+        size: load.size,
+    };
+    let depth = machine.stack.len();
+    match place_of(input.shapes, input.frame, input.context, depth, span) {
         Ok(place) => { load_placed(input, machine, port, load, place) }
         Err(other) => Stepped::Faulted(other),
     }

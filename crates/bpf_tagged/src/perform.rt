@@ -1,9 +1,8 @@
 //! One instruction.
 
-ghost use Rattle.std.specs.Prelude.{◌≡◌, ◌<◌, [], IfSome};
+ghost use Rattle.std.specs.Prelude.{◌≡◌, ◌<◌, IfSome};
 ghost use Rattle.bpf_model.specs.Memory.{compared};
 ghost use Rattle.bpf_model.specs.Step.{next_of, next_at};
-ghost use Rattle.bpf_model.specs.Run.{setting};
 ghost use Rattle.bpf_tagged.specs.Accesses.{given};
 ghost use Rattle.bpf_tagged.specs.Took.{Performs, IsPaired};
 
@@ -21,7 +20,7 @@ use crate::operations::{
 use crate::stores::{Store, perform_store};
 use crate::{Input, Machine, Port, Stepped};
 use bpf_insn::{AtomicOp, Insn};
-use bpf_regions::{Shapes, Value};
+use bpf_regions::Value;
 use bpf_values::bytes::size_in_bytes;
 use bpf_values::causes;
 use bpf_words::word_of_int;
@@ -143,27 +142,19 @@ pub fn perform<P: Port>(
 
 /// Performs the instruction of a slot: `None` is outside the code, `Some(None)` a second half.
 pub fn perform_slot<P: Port>(
-    shapes: &Shapes,
-    frame: &[u8],
-    context: &[u8],
+    input: Input<'_>,
     slot: Option<Option<Insn>>,
     machine: &mut Machine,
     port: &mut P,
 ) -> Stepped
     requires here { IfSome slot (λ held. machine.old.pc < 65536) }
-    requires shapes { P.shapes port.old ≡ shapes.now }
+    requires shapes { P.shapes port.old ≡ input.shapes.now }
     requires paired { IsPaired machine.old }
-    ensures performs { Performs P.gives shapes.now
-        (next_at (setting [] shapes.now frame.now context.now) slot)
+    ensures performs { Performs P.gives input.entry.shapes.now (next_at (given input.entry) slot)
         result port.old port.new machine.old machine.new }
     ensures shapes { P.shapes port.new ≡ P.shapes port.old }
     ensures paired { IsPaired machine.new }
 {
-    let input = Input {
-        shapes,
-        frame,
-        context,
-    };
     match slot {
         Some(held) => match held {
             Some(insn) => perform(input, insn, machine, port),

@@ -15,7 +15,7 @@ use bpf_regions::{MapOp, Value};
 use bpf_values::arithmetic::{unset, wrong_kind};
 use bpf_values::bytes::store_in;
 use bpf_values::causes;
-use bpf_values::places::{place_of, points_elsewhere, taken_by, with_offset};
+use bpf_values::places::{Span, place_of, points_elsewhere, taken_by, with_offset};
 
 fn number_of(value: Value) -> u64
     ensures { result ≡ number_or_zero value }
@@ -114,20 +114,17 @@ pub fn perform_store<P: Port>(
         Err(cause) => return Stepped::Faulted(cause),
     };
     let at = with_offset(target.base, offset);
-    let taken = match taken_by(target.region, at, store.size, store.value) {
+    let span = Span {
+        region: target.region,
+        at,
+        size: store.size,
+    };
+    let taken = match taken_by(span, store.value) {
         Ok(taken) => taken,
         Err(refused) => return Stepped::Faulted(refused),
     };
     let depth = machine.stack.len();
-    match place_of(
-        input.shapes,
-        input.frame,
-        input.context,
-        depth,
-        target.region,
-        at,
-        store.size,
-    ) {
+    match place_of(input.shapes, input.frame, input.context, depth, span) {
         Ok(place) => { store_placed(machine, port, store.size, taken, place) }
         Err(other) => Stepped::Faulted(other),
     }

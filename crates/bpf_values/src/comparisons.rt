@@ -120,21 +120,26 @@ fn test_narrow(compare: Compare, a: Value, b: Value) -> Result<bool, u8>
     }
 }
 
-/// Whether a conditional jump is taken, or its fault. `length` is the frame's; `zero` says that the source is the
-/// immediate 0.
+/// A source's value, and whether it is the immediate 0.
+#[derive(Clone, Copy)]
+pub struct Operand {
+    pub value: Value,
+    pub zero: bool,
+}
+
+/// Whether a conditional jump is taken, or its fault. `length` is the frame's.
 pub fn is_taken(
     compare: Compare,
     wide: bool,
     length: usize,
-    zero: bool,
     a: Value,
-    b: Value,
+    b: Operand,
 ) -> Result<bool, u8>
-    ensures { result ≡ taken compare wide length zero a b }
+    ensures { result ≡ taken compare wide length b.zero a b.value }
 {
     if wide {
-        test_wide(compare, length, zero, a, b)
+        test_wide(compare, length, b.zero, a, b.value)
     } else {
-        test_narrow(compare, a, b)
+        test_narrow(compare, a, b.value)
     }
 }

@@ -61,22 +61,30 @@ fn fits(at: u64, size: usize, length: usize) -> bool
     size <= length && at <= (length - size) as u64
 }
 
-/// The location of `size` bytes at an offset in their region: fault 33 if a map access has the wrong width or
-/// alignment, else 32 if it is outside its region.
+/// The bytes of an access: `size` bytes at an offset in their region.
+#[derive(Clone, Copy)]
+pub struct Span {
+    pub region: Region,
+    pub at: u64,
+    pub size: usize,
+}
+
+/// The location of an access: fault 33 if a map access has the wrong width or alignment, else 32 if it is outside its
+/// region.
 pub fn place_of(
     shapes: &Shapes,
     frame: &[u8],
     context: &[u8],
     depth: usize,
-    region: Region,
-    at: u64,
-    size: usize,
+    span: Span,
 ) -> Result<Place, u8>
-    requires { size ≤ 8 }
-    ensures is { result ≡ place (setting [] shapes.now frame.now context.now) depth region at size }
+    requires { span.size ≤ 8 }
+    ensures is { result ≡ place (setting [] shapes.now frame.now context.now) depth
+        span.region span.at span.size }
     ensures inside { IfOk result
-        (λ p. IsInside shapes.now (length frame.now) (length context.now) depth size p) }
+        (λ p. IsInside shapes.now (length frame.now) (length context.now) depth span.size p) }
 {
+    let Span { region, at, size } = span;
     match region {
         Region::Frame => {
             if fits(at, size, frame.len()) {
@@ -132,13 +140,13 @@ fn for_map(value: Value) -> Result<Value, u8>
 }
 
 /// The value, if it may be stored there, or else the fault.
-pub fn taken_by(region: Region, at: u64, size: usize, value: Value) -> Result<Value, u8>
-    ensures { result ≡ storable region at size value }
+pub fn taken_by(span: Span, value: Value) -> Result<Value, u8>
+    ensures { result ≡ storable span.region span.at span.size value }
 {
-    match region {
+    match span.region {
         Region::Frame => Err(causes::WRONG_OPERAND),
         Region::Context => Err(causes::WRONG_OPERAND),
-        Region::Stack(_) => for_stack(at, size, value),
+        Region::Stack(_) => for_stack(span.at, span.size, value),
         Region::Entry { .. } => for_map(value),
     }
 }
@@ -157,15 +165,15 @@ pub fn points_elsewhere(frame: usize, value: Value) -> bool
 }
 
 /// The region, if an atomic may access it there, or else the fault.
-pub fn for_atomic(region: Region, at: u64, size: usize) -> Result<Region, u8>
-    requires { 1 ≤ size }
-    ensures { result ≡ atomic_region region at size }
+pub fn for_atomic(span: Span) -> Result<Region, u8>
+    requires { 1 ≤ span.size }
+    ensures { result ≡ atomic_region span.region span.at span.size }
 {
-    match region {
+    match span.region {
         Region::Frame => Err(causes::WRONG_OPERAND),
         Region::Context => Err(causes::WRONG_OPERAND),
         Region::Stack(k) => {
-            if at % size as u64 == 0 {
+            if span.at % span.size as u64 == 0 {
                 Ok(Region::Stack(k))
             } else {
                 Err(causes::MISALIGNED)
