@@ -9,7 +9,7 @@ use crate::room::FrameRoom;
 use crate::state::{Setting, State};
 use ap_agreements::Released;
 use ap_model::Out;
-use mac_frame::{Address, MacFrame, SequenceNumber, Tid};
+use mac_frame::{Address, BlockAck, MacFrame, SequenceNumber, Tid};
 use std::alloc::AllocError;
 
 /// Handles a station's BlockAckReq, which leads to nothing without an agreement.
@@ -36,7 +36,12 @@ pub(crate) fn on_request(
             let mut passed = Released::new();
             let (first, bits) = state.agreements.request(at, start, clock, &mut passed);
             pass_up(station, tid, passed, &mut outs);
-            let answer = MacFrame::block_ack(alloc, station, config.bssid(), tid, first, bits);
+            let response = BlockAck {
+                tid,
+                start: first,
+                bitmap: bits,
+            };
+            let answer = MacFrame::block_ack(alloc, station, config.bssid(), response);
             outs.push_reserved(frame.send(&answer));
             Ok(outs)
         }

@@ -16,7 +16,9 @@ use ap_agreements::Entry;
 use ap_model::{Judge, Out};
 use bpf_regions::{Context, Hook};
 use hooks::{Asker, addba_context, addba_verdict};
-use mac_frame::{BlockAckParameters, BlockAckPolicy, BufferSize, MacFrame, SequenceNumber, Status};
+use mac_frame::{
+    AddbaResponse, BlockAckParameters, BlockAckPolicy, BufferSize, MacFrame, SequenceNumber, Status,
+};
 use std::alloc::AllocError;
 
 /// A received ADDBA request, and what it asks for.
@@ -54,18 +56,13 @@ fn answer(
     };
     let station = request.came.frame.sender();
     let bssid = setting.config.bssid();
-    let granted = BlockAckParameters::immediate(request.parameters.tid, size);
-    let token = request.token;
-    let timeout = request.timeout;
-    MacFrame::addba_response(
-        setting.alloc,
-        station,
-        bssid,
-        token,
+    let response = AddbaResponse {
+        dialog_token: request.token,
         status,
-        granted,
-        timeout,
-    )
+        parameters: BlockAckParameters::immediate(request.parameters.tid, size),
+        timeout: request.timeout,
+    };
+    MacFrame::addba_response(setting.alloc, station, bssid, response)
 }
 
 /// The hook's context for a request.

@@ -1,7 +1,7 @@
 //! The instruction that a line's words spell.
 
-ghost use Rattle.std.specs.Prelude.{◌≡◌, ℕ, List, Bool, not, map, Some, None, Ok, IfOk, [], ◌∷◌};
-ghost use Rattle.bpf_line.specs.Lines.{alu_said, extension_said, load_said, store_said, store_register_said, atomic_said, wide_said, two_said, branch_said, order_said, neg_said, stored, loaded, one_said, local_said, map_said, value_said, is_narrow, base_of, said};
+ghost use Rattle.std.specs.Prelude.{◌≡◌, ◌&&◌, ℕ, List, Bool, not, map, Some, None, Ok, IfOk, [], ◌∷◌};
+ghost use Rattle.bpf_line.specs.Lines.{alu_said, extension_said, load_said, store_said, store_register_said, atomic_said, wide_said, two_said, branch_said, order_said, neg_said, stored, loaded, one_said, local_said, map_said, value_said, is_narrow, is_comma, is_load_of, base_of, said};
 ghost use Rattle.bpf_insn.specs.Spelled.{IsExtension, IsInsn, IsSigned};
 ghost use Rattle.bpf_line.specs.Names.{compare_named, order_named};
 ghost use Rattle.bpf_line.specs.Numbers.{on, imm, offset, long_offset};
@@ -294,26 +294,25 @@ fn map_value(dst: &str, map: &str, offset: &str) -> Said
     })
 }
 
+/// Whether the words are those of `lddw r1, KIND ..`.
+fn is_load_of(name: &str, kind: &str, comma: &str, what: &str) -> bool
+    ensures is { result ≡ is_load_of name.now kind.now comma.now what.now }
+{
+    name == "lddw" && comma == "," && what == kind
+}
+
+fn are_commas(first: &str, second: &str) -> bool
+    ensures is { result ≡ (is_comma first.now && is_comma second.now) }
+{
+    first == "," && second == ","
+}
+
 fn of_five(name: &str, dst: &str, comma: &str, what: &str, operand: &str) -> Said
     ensures is { result ≡ said (name.now ∷ dst.now ∷ comma.now ∷ what.now ∷ operand.now ∷ []) }
     ensures valid { IfOk result IsInsn }
 {
-    if name == "lddw" && comma == "," && what == "map" {
+    if is_load_of(name, "map", comma, what) {
         map_reference(dst, operand)
-    } else {
-        Err(LineFault::Grammar)
-    }
-}
-
-fn of_six(name: &str, first: &str, comma: &str, second: &str, third: &str, fourth: &str) -> Said
-    ensures is { result
-        ≡ said (name.now ∷ first.now ∷ comma.now ∷ second.now ∷ third.now ∷ fourth.now ∷ []) }
-    ensures valid { IfOk result IsInsn }
-{
-    if name == "lddw" && comma == "," && second == "value" {
-        map_value(first, third, fourth)
-    } else if comma == "," && third == "," {
-        branch(name, first, second, fourth)
     } else {
         Err(LineFault::Grammar)
     }
@@ -361,11 +360,17 @@ pub fn read_words(words: &[&str]) -> Said
         [] => Err(LineFault::Grammar),
         [name] => of_one(name),
         [name, operand] => one(name, operand),
-        [name, second, third] => of_three(name, second, third),
-        [name, second, third, fourth] => of_four(name, second, third, fourth),
-        [name, second, third, fourth, fifth] => of_five(name, second, third, fourth, fifth),
-        [name, second, third, fourth, fifth, sixth] => {
-            of_six(name, second, third, fourth, fifth, sixth)
+        [name, local, target] => of_three(name, local, target),
+        [name, first, comma, second] => of_four(name, first, comma, second),
+        [name, dst, comma, what, operand] => of_five(name, dst, comma, what, operand),
+        [name, dst, comma, second, third, fourth] => {
+            if is_load_of(name, "value", comma, second) {
+                map_value(dst, third, fourth)
+            } else if are_commas(comma, third) {
+                branch(name, dst, second, fourth)
+            } else {
+                Err(LineFault::Grammar)
+            }
         }
         [_, _, _, _, _, _, _, ..] => Err(LineFault::Grammar),
     }

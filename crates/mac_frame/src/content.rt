@@ -96,6 +96,27 @@ pub enum Control {
     },
 }
 
+/// The fields of an ADDBA response that an access point sends (9.6.5.3).
+#[derive(Clone, Copy)]
+pub struct AddbaResponse {
+    /// That of the request (9.4.1.12).
+    pub dialog_token: u8,
+    pub status: Status,
+    /// What is granted.
+    pub parameters: BlockAckParameters,
+    /// In time units; 0 is none (9.4.1.15).
+    pub timeout: u16,
+}
+
+/// The fields of a BlockAck that an access point sends (9.3.1.9): bit n of the bitmap means the frame with number
+/// start + n.
+#[derive(Clone, Copy)]
+pub struct BlockAck {
+    pub tid: Tid,
+    pub start: SequenceNumber,
+    pub bitmap: u64,
+}
+
 /// A data frame, by its subtype (9.2.4.1.3).
 #[derive(Clone, Copy, Debug, PartialEq, Eq)]
 pub enum DataKind {

@@ -7,7 +7,7 @@ ghost use Rattle.mac_frame.specs.Spelling.{Frame, IsFrame, IsManagement, content
 ghost use Rattle.mac_frame.specs.Frames.{bssid_of, sequence_number_of, parameters_of, tid_of, elements_of, ssid_of, rates_of, sent_management, sent_control};
 ghost use Rattle.mac_frame.specs.Reading.{IsFault};
 
-use crate::content::{Content, Control, Management};
+use crate::content::{AddbaResponse, BlockAck, Content, Control, Management};
 use crate::contents::parts_from;
 use crate::elements::{Elements, ElementsBuf, SSID, SUPPORTED_RATES};
 use crate::fault::FrameFault;
@@ -357,14 +357,18 @@ impl MacFrame {
         alloc: Global,
         station: Address,
         bssid: Address,
-        dialog_token: u8,
-        status: Status,
-        parameters: BlockAckParameters,
-        timeout: u16,
+        response: AddbaResponse,
     ) -> Self
         ensures { result ≡ sent_management station bssid
-            (Management.AddbaResponse dialog_token status parameters timeout) [] }
+            (Management.AddbaResponse response.dialog_token response.status response.parameters
+            response.timeout) [] }
     {
+        let AddbaResponse {
+            dialog_token,
+            status,
+            parameters,
+            timeout,
+        } = response;
         status.known();
         parameters.tid.known();
         parameters.buffer_size.known();
@@ -392,19 +396,14 @@ impl MacFrame {
         sent(station, bssid, body, Vec::new(alloc))
     }
 
-    /// The response to a BlockAckReq: bit n of the bitmap means number start + n.
-    pub fn block_ack(
-        alloc: Global,
-        station: Address,
-        bssid: Address,
-        tid: Tid,
-        start: SequenceNumber,
-        bitmap: u64,
-    ) -> Self
-        ensures { result ≡ sent_control station bssid (Control.BlockAck tid start bitmap) }
+    /// The response to a BlockAckReq.
+    pub fn block_ack(alloc: Global, station: Address, bssid: Address, response: BlockAck) -> Self
+        ensures { result ≡ sent_control station bssid
+            (Control.BlockAck response.tid response.start response.bitmap) }
     {
         station.known();
         bssid.known();
+        let BlockAck { tid, start, bitmap } = response;
         tid.known();
         start.known();
         MacFrame {

@@ -22,7 +22,7 @@ mod management_bodies;
 mod subtype;
 mod writing;
 
-pub use content::{Content, Control, DataKind, Management};
+pub use content::{AddbaResponse, BlockAck, Content, Control, DataKind, Management};
 pub use elements::{Elements, ElementsBuf, SSID, SUPPORTED_RATES};
 pub use fault::{Fault, FrameFault};
 pub use frame::{LONGEST_HEAD, MacFrame, parse, write};

@@ -5,9 +5,9 @@ ghost use Rattle.std.specs.Prelude.{◌≡◌, ◌<◌, length};
 use crate::same::{holds, same};
 use crate::spelled::spelled;
 use mac_frame::{
-    AckPolicy, Address, AidField, BlockAckParameters, BufferSize, Content, Control, DataKind,
-    Elements, ElementsBuf, Fault, FrameFault, MacFrame, Management, QosControl, Reason,
-    SequenceNumber, Status, Tid, parse, write, written_is_read,
+    AckPolicy, AddbaResponse, Address, AidField, BlockAck, BlockAckParameters, BufferSize, Content,
+    Control, DataKind, Elements, ElementsBuf, Fault, FrameFault, MacFrame, Management, QosControl,
+    Reason, SequenceNumber, Status, Tid, parse, write, written_is_read,
 };
 use std::alloc::Global;
 use std::process::Abort;
@@ -824,12 +824,18 @@ fn frame_of(rt: &impl Abort, alloc: Global, sent: Sent) -> MacFrame {
             return MacFrame::delba(alloc, station, bssid, five, Reason::new(reason));
         }
         Sent::Addba(status, size) => {
-            let (status, granted) = (Status::new(status), parameters(rt, zero, size));
-            return MacFrame::addba_response(alloc, station, bssid, 7, status, granted, 0);
+            let response = AddbaResponse {
+                dialog_token: 7,
+                status: Status::new(status),
+                parameters: parameters(rt, zero, size),
+                timeout: 0,
+            };
+            return MacFrame::addba_response(alloc, station, bssid, response);
         }
-        Sent::BlockAck(start, bits) => {
+        Sent::BlockAck(start, bitmap) => {
+            let tid = zero;
             let start = SequenceNumber::new(start).expect(rt, "a number");
-            return MacFrame::block_ack(alloc, station, bssid, zero, start, bits);
+            return MacFrame::block_ack(alloc, station, bssid, BlockAck { tid, start, bitmap });
         }
     }
 }
