@@ -1,4 +1,4 @@
-//! Laws of runs.
+//! Laws of runs. Each law's function does nothing.
 ghost use Rattle.ap_laws.specs.Origins.{OpeningHoldsAgreements, RunHoldsAgreements, FromAnyReadings, FromTheOpening, SomeIsPassedUp};
 ghost use Rattle.ap_laws.specs.Alongside.{RunsLeaveSameStarts, LinkRunsLeaveSameStarts};
 ghost use Rattle.ap_laws.specs.InOrder.{TellsOne, GoesOnInOrder, EndsInOrder, DropsSilently, SomeIsPassedInOrder};
@@ -9,62 +9,6 @@ ghost use Rattle.ap_laws.specs.Headline.{RunsHold, EventsHold, AccessPointsHold,
 ghost use Rattle.ap_laws.specs.Identifiers.{OpeningHoldsOnce, RunHoldsOnce, AccessPointHoldsOnce};
 
 use ap_model::Judge;
-
-/// No two stations of an access point hold one association identifier (IEEE 802.11-2016, 9.4.1.8).
-/// In the opening of a shard none is held; every run keeps that none is held twice; and the
-/// identifiers of different shards differ.
-pub fn identifiers_law()
-    ensures opening { OpeningHoldsOnce }
-    ensures run { RunHoldsOnce }
-    ensures access_point { AccessPointHoldsOnce }
-{}
-
-/// Data that is passed up came in a frame whose source was associated when it arrived and before
-/// each entry since (IEEE 802.11-2016, 11.3), and a verdict let it through with its mark. If a run
-/// starts from readings for which `HoldsAgreements` holds, the data may have been held already;
-/// then its source was associated all the time. `HoldsAgreements` holds in the opening, and every
-/// run keeps it. There is a run in which data is passed up.
-pub fn origin_law()
-    ensures opening { OpeningHoldsAgreements }
-    ensures run { RunHoldsAgreements }
-    ensures held { FromAnyReadings }
-    ensures came { FromTheOpening }
-    ensures some { SomeIsPassedUp }
-{}
-
-/// A verdict on data never moves a window (IEEE 802.11-2016, 10.24.7.6). Take two runs over the
-/// same events from the same readings, for which `HoldsOnce` and `HoldsAgreements` hold. If they
-/// agree in all verdicts except those on data, they leave the same agreements with the same window
-/// starts: in a shard, and in a whole access point.
-pub fn window_law()
-    ensures shard { RunsLeaveSameStarts }
-    ensures access_point { LinkRunsLeaveSameStarts }
-{}
-
-/// What is passed up of each agreement (IEEE 802.11-2016, 10.24.7.6.1). A history describes at most
-/// one agreement per station and TID. Since it was opened, exactly its accepted numbers below its
-/// window's start were passed up, once each, in increasing order of whole numbers; when it ends or
-/// is replaced, all that it accepted. If an exchange of the station discards it, that entry passes
-/// up nothing of it. There is a run in which an agreement passes data up.
-pub fn order_law()
-    ensures told { TellsOne }
-    ensures going_on { GoesOnInOrder }
-    ensures ended { EndsInOrder }
-    ensures dropped { DropsSilently }
-    ensures some { SomeIsPassedInOrder }
-{}
-
-/// Steps over readings are steps over histories. The readings that a run leaves are those of its
-/// history: each station's standing follows from its exchanges (IEEE 802.11-2016, 11.3), and each
-/// agreement is what the history describes. The same entries follow all readings of one history,
-/// and lead to readings of the longer history. So a list of entries is a run exactly if each
-/// follows those before it.
-pub fn history_law()
-    ensures readings { RunsAreRead }
-    ensures steps { ReadingsServe }
-    ensures going_on { ReadingsGoOn }
-    ensures runs { RunsAreHistories }
-{}
 
 /// The link's half of the main theorem, for any judge. If the entries of shards so far are runs
 /// from the opening, an event at one shard or a list of events at eight leads only to entries that
@@ -84,6 +28,54 @@ pub fn link_law<J: Judge>()
 /// far, if they are a run from the opening.
 pub fn run_law()
     ensures { RunsHold }
+{}
+
+/// A verdict on data never moves a window (IEEE 802.11-2016, 10.24.7.6). Take two runs over the
+/// same events from the same readings, for which `HoldsOnce` and `HoldsAgreements` hold. If they
+/// agree in all verdicts except those on data, they leave the same agreements with the same window
+/// starts: in a shard, and in a whole access point.
+pub fn window_law()
+    ensures shard { RunsLeaveSameStarts }
+    ensures access_point { LinkRunsLeaveSameStarts }
+{}
+
+/// What the history of a run says, part by part.
+///
+/// - Identifiers. No two stations of an access point hold one association identifier (IEEE
+///   802.11-2016, 9.4.1.8). In the opening of a shard none is held; every run keeps that none is
+///   held twice; and the identifiers of different shards differ.
+/// - Origins. Data that is passed up came in a frame whose source was associated when it arrived
+///   and before each entry since (IEEE 802.11-2016, 11.3), and a verdict let it through with its
+///   mark. If a run starts from readings for which `HoldsAgreements` holds, the data may have been
+///   held already; then its source was associated all the time. `HoldsAgreements` holds in the
+///   opening, and every run keeps it. There is a run in which data is passed up.
+/// - Order. A history describes at most one agreement per station and TID. Since it was opened,
+///   exactly its accepted numbers below its window's start were passed up, once each, in increasing
+///   order of whole numbers; when it ends or is replaced, all that it accepted (IEEE 802.11-2016,
+///   10.24.7.6.1). If an exchange of the station discards it, that entry passes up nothing of it.
+///   There is a run in which an agreement passes data up.
+/// - Readings. The readings that a run leaves are those of its history: each station's standing
+///   follows from its exchanges (IEEE 802.11-2016, 11.3), and each agreement is what the history
+///   describes. The same entries follow all readings of one history, and lead to readings of the
+///   longer history. So a list of entries is a run exactly if each follows those before it.
+pub fn history_law()
+    ensures opening_identifiers { OpeningHoldsOnce }
+    ensures kept_identifiers { RunHoldsOnce }
+    ensures identifiers { AccessPointHoldsOnce }
+    ensures opening_agreements { OpeningHoldsAgreements }
+    ensures kept_agreements { RunHoldsAgreements }
+    ensures origin_from_readings { FromAnyReadings }
+    ensures origin { FromTheOpening }
+    ensures some_origin { SomeIsPassedUp }
+    ensures one_agreement { TellsOne }
+    ensures order { GoesOnInOrder }
+    ensures order_at_end { EndsInOrder }
+    ensures dropped { DropsSilently }
+    ensures some_order { SomeIsPassedInOrder }
+    ensures readings { RunsAreRead }
+    ensures steps { ReadingsServe }
+    ensures going_on { ReadingsGoOn }
+    ensures runs { RunsAreHistories }
 {}
 
 /// Runs one after another form a run: of a shard, and of eight with a judge. If each of eight

@@ -7,10 +7,8 @@
 //! legal history.
 #![tactic(auto)]
 
-mod laws;
 mod seats;
 mod tables;
 
-pub use laws::operators_law;
 pub use seats::OperatorSeats;
 pub use tables::ApTables;

@@ -1,4 +1,4 @@
-//! What words in their usual order ask for.
+//! What words in their usual order ask for. The law's function does nothing.
 
 ghost use Rattle.std.specs.Prelude.{◌≡◌, ◌∷◌, [], Some, None, List, ℕ, codes, false};
 ghost use Rattle.bpf_regions.specs.Hooks.{name_of};
@@ -7,49 +7,40 @@ ghost use Rattle.apd_words.specs.Asked.{Verify, Assemble, Disassemble, Trace, An
 ghost use Rattle.apd_words.specs.CommandLine.{most_states};
 ghost use Rattle.apd_words.specs.Spells.{IsOperand, Spells};
 
-/// The law of `apd verify HOOK FILE`, with `--config C` or `--states N`, where N is 1 to 4194304: the words ask for
-/// what they say if no FILE, C or N begins with a hyphen.
-pub fn verify_law()
-    ensures plain { (program file : List ℕ) (hook : Hook) → IsOperand file
+/// The law of the commands' words in their usual order: they ask for what they say, if no FILE, FRAME, C or N begins
+/// with a hyphen, and N is 1 to 4194304.
+///
+/// - `apd verify HOOK FILE`, with `--config C` or `--states N`
+/// - `apd asm FILE`
+/// - `apd disasm FILE [--config C]`
+/// - `apd trace HOOK FILE FRAME`, with `--config C` or `--states N`
+pub fn usage_law()
+    ensures verify { (program file : List ℕ) (hook : Hook) → IsOperand file
         → Spells (program ∷ codes "verify" ∷ name_of hook ∷ file ∷ [])
         (Answer (Verify hook file None most_states None) None) }
-    ensures configured { (program file config : List ℕ) (hook : Hook) →
+    ensures verify_configured { (program file config : List ℕ) (hook : Hook) →
         IsOperand file → IsOperand config
         → Spells (program ∷ codes "verify" ∷ name_of hook ∷ file ∷ codes "--config" ∷ config ∷ [])
         (Answer (Verify hook file (Some config) most_states None) None) }
-    ensures limited { (program file number : List ℕ) (hook : Hook) (states : ℕ) →
+    ensures verify_limited { (program file number : List ℕ) (hook : Hook) (states : ℕ) →
         IsOperand file → IsOperand number → states_named number ≡ Some states
         → Spells (program ∷ codes "verify" ∷ name_of hook ∷ file ∷ codes "--states" ∷ number ∷ [])
         (Answer (Verify hook file None states None) None) }
-{}
-
-/// The law of `apd asm FILE`: the words ask for what they say if FILE doesn't begin with a hyphen.
-pub fn assemble_law()
-    ensures plain { (program file : List ℕ) → IsOperand file
+    ensures assemble { (program file : List ℕ) → IsOperand file
         → Spells (program ∷ codes "asm" ∷ file ∷ []) (Answer (Assemble file) None) }
-{}
-
-/// The law of `apd disasm FILE [--config C]`: the words ask for what they say if neither FILE nor C begins with a
-/// hyphen.
-pub fn disassemble_law()
-    ensures plain { (program file : List ℕ) → IsOperand file
+    ensures disassemble { (program file : List ℕ) → IsOperand file
         → Spells (program ∷ codes "disasm" ∷ file ∷ []) (Answer (Disassemble file None false) None) }
-    ensures configured { (program file config : List ℕ) → IsOperand file → IsOperand config
+    ensures disassemble_configured { (program file config : List ℕ) → IsOperand file → IsOperand config
         → Spells (program ∷ codes "disasm" ∷ file ∷ codes "--config" ∷ config ∷ [])
         (Answer (Disassemble file (Some config) false) None) }
-{}
-
-/// The law of `apd trace HOOK FILE FRAME`, with `--config C` or `--states N`, where N is 1 to 4194304: the words ask
-/// for what they say if no FILE, FRAME, C or N begins with a hyphen.
-pub fn trace_law()
-    ensures plain { (program file frame : List ℕ) (hook : Hook) → IsOperand file → IsOperand frame
+    ensures trace { (program file frame : List ℕ) (hook : Hook) → IsOperand file → IsOperand frame
         → Spells (program ∷ codes "trace" ∷ name_of hook ∷ file ∷ frame ∷ [])
         (Answer (Trace hook file frame None most_states None None false) None) }
-    ensures configured { (program file frame config : List ℕ) (hook : Hook) →
+    ensures trace_configured { (program file frame config : List ℕ) (hook : Hook) →
         IsOperand file → IsOperand frame → IsOperand config
         → Spells (program ∷ codes "trace" ∷ name_of hook ∷ file ∷ frame ∷ codes "--config"
         ∷ config ∷ []) (Answer (Trace hook file frame (Some config) most_states None None false) None) }
-    ensures limited { (program file frame number : List ℕ) (hook : Hook) (states : ℕ) →
+    ensures trace_limited { (program file frame number : List ℕ) (hook : Hook) (states : ℕ) →
         IsOperand file → IsOperand frame → IsOperand number → states_named number ≡ Some states
         → Spells (program ∷ codes "trace" ∷ name_of hook ∷ file ∷ frame ∷ codes "--states"
         ∷ number ∷ []) (Answer (Trace hook file frame None states None None false) None) }

@@ -1,8 +1,8 @@
 //! The command line of `apd`: what its words ask for, or the text to print instead.
 //!
 //! Main call: `read_words`. It depends on `clap` and `bpf_regions`. It returns the `Request` that the words spell, the
-//! help that they ask for, or the text of a fault. [`laws`] shows which words spell `verify`, `asm`, `disasm` and
-//! `trace`. The texts are tested, not proved.
+//! help that they ask for, or the text of a fault. `laws::usage_law` shows which words spell `verify`, `asm`,
+//! `disasm` and `trace`. The texts are tested, not proved.
 #![tactic(auto)]
 
 ghost use Rattle.std.specs.Prelude.{◌≡◌};

@@ -13,5 +13,5 @@ mod scoreboard;
 mod sink;
 
 pub use agreement::{Agreement, Placed};
-pub use laws::{order_law, reading_law, unwrap_law, window_law};
+pub use laws::{order_law, window_law};
 pub use sink::Sink;

@@ -3,8 +3,8 @@
 //!
 //! Main calls: `AbsNum::alu` (the result of an operation) and `AbsNum::branch` (what remains on a
 //! branch of a conditional jump). It depends on `bpf_interval` and `bpf_values`. Each operation
-//! returns what its definition in `specs/` says. The laws of [`number::laws`] say that it keeps
-//! every result of the machine, and every pair of words that takes a branch. No call allocates.
+//! returns what its definition in `specs/` says. `number::laws::number_law` says that it keeps every
+//! result of the machine, and every pair of words that takes a branch. No call allocates.
 #![tactic(auto)]
 
 pub mod number;

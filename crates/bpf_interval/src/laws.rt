@@ -1,5 +1,4 @@
-//! Each operation contains every result of the machine's operation on members, and each refinement keeps what takes its
-//! branch. Each law's function does nothing.
+//! The laws of intervals, unsigned and signed. Each law's function does nothing.
 
 ghost use Rattle.std.specs.Prelude.{ℕ, ◌*◌, ◌/◌, ◌%◌, ◌^◌, ◌<◌, ◌≤◌, bit_and, bit_or};
 ghost use Rattle.bpf_words.specs.Word.{word_add, word_sub, quotient, remainder};
@@ -7,8 +6,10 @@ ghost use Rattle.bpf_interval.specs.Interval.{Bounds, InBounds, bounds_add, boun
 ghost use Rattle.bpf_interval.specs.Signed.{signed_add, signed_sub};
 ghost use Rattle.bpf_interval.specs.Laws.{ContainsResults, ContainsSigned, CutContains, WidthContains, MeetKeeps, KeepsPairs, WithoutKeeps, IncludedKeeps, PlacesOrder, PlaceTwice, SignedReads, SignedNarrowKeeps, UnsignedNarrowKeeps, SarContains, DivContains, RemContains, ExtensionContains, ExtensionKeeps};
 
-/// Each operation on intervals contains every result of the machine's operation.
-pub fn arithmetic_law()
+/// Intervals are sound. Each operation contains every result of the machine's operation on members, and an interval of
+/// words of n bits each of these. Each refinement returns `Some` if anything takes its branch, and keeps all that does.
+/// Each member of an included interval is a member of the other.
+pub fn interval_law()
     ensures add { ContainsResults bounds_add word_add }
     ensures sub { ContainsResults bounds_sub word_sub }
     ensures and { ContainsResults bounds_and bit_and }
@@ -21,11 +22,6 @@ pub fn arithmetic_law()
     ensures shr { (a : Bounds) (c x : ℕ) → InBounds a x → InBounds (bounds_shr a c) (x / 2 ^ c) }
     ensures cut { CutContains }
     ensures width { WidthContains }
-{}
-
-/// Each refinement returns `Some` if anything takes its branch, and keeps all that does. Each member of an included
-/// interval is a member of the other.
-pub fn refinement_law()
     ensures meet { MeetKeeps }
     ensures greater { KeepsPairs after_greater (λ x y. y < x) }
     ensures at_most { KeepsPairs after_at_most (λ x y. x ≤ y) }
@@ -33,24 +29,21 @@ pub fn refinement_law()
     ensures included { IncludedKeeps }
 {}
 
-/// `place` is its own inverse, and orders words as signed numbers. So the words of a signed interval are those that
-/// read as numbers between its ends.
-pub fn place_law()
-    ensures order { PlacesOrder }
-    ensures twice { PlaceTwice }
-    ensures reads { SignedReads }
-{}
-
-/// Each operation on signed intervals contains every result of the machine's operation. Narrowing by an interval of the
-/// other signedness loses no common member.
+/// Signed intervals are sound. `place` is its own inverse, and orders words as signed numbers. So the words of a signed
+/// interval are those that read as numbers between its ends. Each operation contains every result of the machine's
+/// operation on members. Narrowing by an interval of the other signedness loses no common member. The signed numbers of
+/// n bits are exactly the sign extensions of n bits.
 pub fn signed_law()
-    ensures narrow_signed { SignedNarrowKeeps }
-    ensures narrow_unsigned { UnsignedNarrowKeeps }
+    ensures place_orders { PlacesOrder }
+    ensures place_twice { PlaceTwice }
+    ensures reads { SignedReads }
     ensures add { ContainsSigned signed_add word_add }
     ensures sub { ContainsSigned signed_sub word_sub }
     ensures sar { SarContains }
     ensures div { DivContains }
     ensures rem { RemContains }
     ensures extension { ExtensionContains }
-    ensures kept { ExtensionKeeps }
+    ensures extension_kept { ExtensionKeeps }
+    ensures narrow_signed { SignedNarrowKeeps }
+    ensures narrow_unsigned { UnsignedNarrowKeeps }
 {}

@@ -1,22 +1,15 @@
-//! What the rules say whatever the values are.
+//! What the rules say of plain programs, whatever the values are. The law's function does nothing.
 
 ghost use Rattle.bpf_plain.specs.Laws.{WaysStand, EntryStands, WaysFollow, PlainReaches, PathsWalk, PlainIsClear};
 
-/// Successors of a state at an instruction are at instructions, and so is the entry.
-pub fn standing_law()
-    ensures ways { WaysStand }
+/// Plain programs are clear, with at most 2^22 states. The entry is at an instruction, and so is each successor of a
+/// state at an instruction. In a plain program each successor is one step of a walk, and from each instruction a path
+/// leads to an EXIT. A path from slot 0 is a walk.
+pub fn plain_law()
+    ensures clear { PlainIsClear }
     ensures entry { EntryStands }
-{}
-
-/// In a plain program each successor is one step of a walk, and each instruction has a path to an EXIT. A path from
-/// slot 0 is a walk.
-pub fn walking_law()
+    ensures ways { WaysStand }
     ensures follows { WaysFollow }
     ensures reaches { PlainReaches }
     ensures walks { PathsWalk }
-{}
-
-/// Plain programs are clear, with at most 2^22 states.
-pub fn plain_law()
-    ensures clear { PlainIsClear }
 {}

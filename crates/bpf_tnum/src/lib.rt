@@ -1,8 +1,8 @@
 //! Tristate numbers: 64-bit words of which some bits are known.
 //!
 //! Main calls: `Tnum::new`, `add`, `and`, `mul`, `meet`, `is_included`. It depends on `bpf_words`.
-//! Each operation returns what its definition in `specs/Tnum.antt` says. The laws of [`laws`] say
-//! that it contains every result of the machine's operation. No call allocates.
+//! Each operation returns what its definition in `specs/Tnum.antt` says. `laws::tnum_law` says that
+//! it contains every result of the machine's operation. No call allocates.
 #![tactic(auto)]
 
 pub mod laws;

@@ -6,7 +6,6 @@ pub mod Counting
 pub mod Finishing
 pub mod Folded
 pub mod Found
-pub mod Laws
 pub mod Limits
 pub mod Path
 pub mod Pushed

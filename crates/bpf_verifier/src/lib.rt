@@ -10,7 +10,6 @@ pub mod admission;
 mod exploration;
 mod fold;
 mod frame;
-pub mod laws;
 pub mod limit;
 pub mod listing;
 mod observer;

@@ -3,7 +3,7 @@ ghost use Rattle.std.specs.Prelude.{◌<◌, ◌≤◌};
 
 use crate::same::same;
 use arrayvec::ArrayVec;
-use blockack::{Agreement, Placed, order_law, reading_law, unwrap_law, window_law};
+use blockack::{Agreement, Placed, order_law, window_law};
 use std::process::Abort;
 
 type Frames = ArrayVec<(u16, u8), 64>;
@@ -317,8 +317,6 @@ fn windows_hand_up_in_order(rt: HostRuntime) {
 
 #[test]
 fn laws_are_stated(_rt: HostRuntime) {
-    unwrap_law();
     order_law::<u8>();
     window_law::<u8>();
-    reading_law::<u8>();
 }
