@@ -433,9 +433,9 @@ APD_INLINE uint32_t apd_run_into(apd_handle *code, apd_handle *maps, const uint8
 {
     if (!report)
         return APD_NULL;
-    report->number = APD_NULL;
-    if (code && maps && code != maps && given && (frame || !length))
-        apd_c_run(code, maps, apd_some_bytes(frame), length, given, report);
+    if (!code || !maps || code == maps || !given || (!frame && length))
+        return report->number = APD_NULL;
+    apd_c_run(code, maps, apd_some_bytes(frame), length, given, report);
     return report->number;
 }
 

@@ -1,5 +1,6 @@
 pub mod Holding
 pub mod Held
+pub mod Lending
 pub mod Answers
 pub mod Given
 pub mod Code

@@ -7,86 +7,55 @@ ghost use Rattle.apd_c.specs.Words.{Operates};
 use crate::handle::Handle;
 use crate::words::{Loaded, access_at};
 use bpf_regions::MapOp;
-use std::alloc::Global;
 
 /// Stores a number, mod 2^(8 * width), in a word of a map.
 ///
 /// 0: the value is the word's old one. 90: there is no such word. 91: the handle holds no maps. It allocates nothing.
 #[unsafe(no_mangle)]
-pub extern "C" fn apd_c_exchange(
-    alloc: Global,
-    maps: &mut Handle,
-    map: u32,
-    word: u32,
-    value: u64,
-) -> Loaded
+pub extern "C" fn apd_c_exchange(maps: &mut Handle, map: u32, word: u32, value: u64) -> Loaded
     ensures { Operates (held maps.old) map word (Swap value) result (held maps.new) }
 {
-    access_at(alloc, maps, map, word, MapOp::Swap(value))
+    access_at(maps, map, word, MapOp::Swap(value))
 }
 
 /// Adds a number to a word of a map, mod 2^(8 * width).
 ///
 /// 0: the value is the word's old one. 90: there is no such word. 91: the handle holds no maps. It allocates nothing.
 #[unsafe(no_mangle)]
-pub extern "C" fn apd_c_fetch_add(
-    alloc: Global,
-    maps: &mut Handle,
-    map: u32,
-    word: u32,
-    value: u64,
-) -> Loaded
+pub extern "C" fn apd_c_fetch_add(maps: &mut Handle, map: u32, word: u32, value: u64) -> Loaded
     ensures { Operates (held maps.old) map word (Add value) result (held maps.new) }
 {
-    access_at(alloc, maps, map, word, MapOp::Add(value))
+    access_at(maps, map, word, MapOp::Add(value))
 }
 
 /// Combines a word of a map with a number by OR.
 ///
 /// 0: the value is the word's old one. 90: there is no such word. 91: the handle holds no maps. It allocates nothing.
 #[unsafe(no_mangle)]
-pub extern "C" fn apd_c_fetch_or(
-    alloc: Global,
-    maps: &mut Handle,
-    map: u32,
-    word: u32,
-    value: u64,
-) -> Loaded
+pub extern "C" fn apd_c_fetch_or(maps: &mut Handle, map: u32, word: u32, value: u64) -> Loaded
     ensures { Operates (held maps.old) map word (Or value) result (held maps.new) }
 {
-    access_at(alloc, maps, map, word, MapOp::Or(value))
+    access_at(maps, map, word, MapOp::Or(value))
 }
 
 /// Combines a word of a map with a number by AND.
 ///
 /// 0: the value is the word's old one. 90: there is no such word. 91: the handle holds no maps. It allocates nothing.
 #[unsafe(no_mangle)]
-pub extern "C" fn apd_c_fetch_and(
-    alloc: Global,
-    maps: &mut Handle,
-    map: u32,
-    word: u32,
-    value: u64,
-) -> Loaded
+pub extern "C" fn apd_c_fetch_and(maps: &mut Handle, map: u32, word: u32, value: u64) -> Loaded
     ensures { Operates (held maps.old) map word (And value) result (held maps.new) }
 {
-    access_at(alloc, maps, map, word, MapOp::And(value))
+    access_at(maps, map, word, MapOp::And(value))
 }
 
 /// Combines a word of a map with a number by XOR.
 ///
 /// 0: the value is the word's old one. 90: there is no such word. 91: the handle holds no maps. It allocates nothing.
 #[unsafe(no_mangle)]
-pub extern "C" fn apd_c_fetch_xor(
-    alloc: Global,
-    maps: &mut Handle,
-    map: u32,
-    word: u32,
-    value: u64,
-) -> Loaded
+pub extern "C" fn apd_c_fetch_xor(maps: &mut Handle, map: u32, word: u32, value: u64) -> Loaded
     ensures { Operates (held maps.old) map word (Xor value) result (held maps.new) }
 {
-    access_at(alloc, maps, map, word, MapOp::Xor(value))
+    access_at(maps, map, word, MapOp::Xor(value))
 }
 
 /// Stores `new` in a word of a map if it holds `expected`, both mod 2^(8 * width).
@@ -95,7 +64,6 @@ pub extern "C" fn apd_c_fetch_xor(
 /// is no such word. 91: the handle holds no maps. It allocates nothing.
 #[unsafe(no_mangle)]
 pub extern "C" fn apd_c_compare_exchange(
-    alloc: Global,
     maps: &mut Handle,
     map: u32,
     word: u32,
@@ -105,11 +73,5 @@ pub extern "C" fn apd_c_compare_exchange(
     ensures { Operates (held maps.old) map word (CompareExchange expected new) result
         (held maps.new) }
 {
-    access_at(
-        alloc,
-        maps,
-        map,
-        word,
-        MapOp::CompareExchange { expected, new },
-    )
+    access_at(maps, map, word, MapOp::CompareExchange { expected, new })
 }

@@ -4,8 +4,8 @@ use bpf_helpers::HookPort;
 use bpf_regions::{Helper, MapOp};
 use bpf_tagged::Port;
 
-/// Answers a run as the port that it holds does. No other run has such a port, so `run` over it has one caller, which
-/// copies no outcome.
+/// Answers a run as the port that it holds does. No other run has such a port, so `run` over it has one caller, into
+/// which it is compiled.
 #[derive(Drop)]
 pub struct CallPort<'t, 's> {
     pub port: HookPort<'t, 's>,

@@ -44,13 +44,9 @@ fn certificate_of(alloc: Global, code: &mut Handle) -> Result<Vec<u8>, Answer>
     ensures why { IfErr result (UnlessSome (code_of (held code.old)) (answer 91) IsCertifiedOr) }
     ensures kept { held code.new ≡ held code.old }
 {
-    match code.take(alloc) {
+    match code.lent() {
         None => Err(Answer::of(OTHER_VALUE)),
-        Some(content) => {
-            let made = certified(alloc, &content);
-            code.put(content);
-            made
-        }
+        Some(content) => certified(alloc, content),
     }
 }
 
@@ -70,8 +66,7 @@ pub extern "C" fn apd_c_certify(
     ensures code { held code.new ≡ held code.old }
     ensures why { IsCertifyAnswer (held code.old) (held certificate.old) result }
 {
-    if let Some(content) = certificate.take(alloc) {
-        certificate.put(content);
+    if !certificate.is_empty() {
         return Answer::of(NOT_EMPTY);
     }
     match certificate_of(alloc, code) {
@@ -174,8 +169,7 @@ pub extern "C" fn apd_c_check_within(
     ensures why { IsCheckVerdict hook bytes.now shapes.now certificate.now (work_limit work)
         (held code.old) result }
 {
-    if let Some(content) = code.take(alloc) {
-        code.put(content);
+    if !code.is_empty() {
         return Answer::of(NOT_EMPTY);
     }
     let certificate = Certificate {
@@ -233,18 +227,14 @@ fn read(content: &Content, into: &mut [u8]) -> usize
 
 /// Copies as many of the bytes that a handle holds as fit, and returns how many it holds; 0 if it holds none.
 #[unsafe(no_mangle)]
-pub extern "C" fn apd_c_read(alloc: Global, bytes: &mut Handle, into: &mut [u8]) -> usize
+pub extern "C" fn apd_c_read(bytes: &mut Handle, into: &mut [u8]) -> usize
     ensures count { result ≡ length (bytes_of (held bytes.old)) }
     ensures copied { take (min result (length into.old)) into.new ≡
         take (min result (length into.old)) (bytes_of (held bytes.old)) }
     ensures kept { held bytes.new ≡ held bytes.old }
 {
-    match bytes.take(alloc) {
+    match bytes.lent() {
         None => 0,
-        Some(content) => {
-            let count = read(&content, into);
-            bytes.put(content);
-            count
-        }
+        Some(content) => read(content, into),
     }
 }

@@ -144,8 +144,7 @@ pub extern "C" fn apd_c_verify_limited(
     ensures why { IsVerdict hook bytes.now shapes.now (limit_of states) (work_limit work)
         (held code.old) result }
 {
-    if let Some(content) = code.take(alloc) {
-        code.put(content);
+    if !code.is_empty() {
         return Answer::of(NOT_EMPTY);
     }
     let limits = Limits {
@@ -195,17 +194,13 @@ pub extern "C" fn apd_c_verify(
 
 /// The budget of the program that a handle holds; 0 if it holds none.
 #[unsafe(no_mangle)]
-pub extern "C" fn apd_c_budget(alloc: Global, code: &mut Handle) -> u32
+pub extern "C" fn apd_c_budget(code: &mut Handle) -> u32
     ensures is { result ≡ budget_of (held code.old) }
     ensures kept { held code.new ≡ held code.old }
 {
-    match code.take(alloc) {
+    match code.lent() {
         None => 0,
-        Some(content) => {
-            let budget = budget(&content);
-            code.put(content);
-            budget
-        }
+        Some(content) => budget(content),
     }
 }
 

@@ -87,13 +87,9 @@ fn lead_at(alloc: Global, link: &mut Handle, maps: &mut Maps, event: Event) -> R
     ensures number { UnlessSome (link_of (held link.old)) 91 (IsNumberOver maps.old)
         (number_in result) }
 {
-    match link.take(alloc) {
+    match link.lent() {
         None => Err(OTHER_VALUE),
-        Some(mut content) => {
-            let led = lead_in(alloc, &mut content, maps, event);
-            link.put(content);
-            led
-        }
+        Some(content) => lead_in(alloc, content, maps, event),
     }
 }
 
@@ -131,13 +127,9 @@ fn lead_over(
         (Stays (held link.old) (held link.new) × Stays (held maps.old) (held maps.new)) }
     ensures number { IsNumberAt (held link.old) (held maps.old) (number_in result) }
 {
-    match maps.take(alloc) {
+    match maps.lent() {
         None => Err(OTHER_VALUE),
-        Some(mut content) => {
-            let led = lead_on(alloc, link, &mut content, event);
-            maps.put(content);
-            led
-        }
+        Some(content) => lead_on(alloc, link, content, event),
     }
 }
 
@@ -155,8 +147,7 @@ fn lead_to(
     ensures number { IsEventNumber (held link.old) (held maps.old) (held outs.old) result }
 {
     let UserEvent { event, user } = given;
-    if let Some(content) = outs.take(alloc) {
-        outs.put(content);
+    if !outs.is_empty() {
         return NOT_EMPTY;
     }
     match Box::new(alloc, Content::Nothing) {

@@ -58,6 +58,9 @@ impl Model for Handle {
 }
 
 impl Handle {
+    ghost use Rattle.std.specs.Borrow.{sem};
+    ghost use Rattle.apd_c.specs.Lending.{LendsContent};
+
     pub(crate) fn sealed(content: Loose<Content, Global>) -> Handle
         ensures full { result.full ≡ true }
         ensures content { result.content ≡ content.value }
@@ -90,5 +93,16 @@ impl Handle {
         } else {
             None
         }
+    }
+
+    /// Its content, lent; `None` if it is empty.
+    pub(crate) fn lent(&mut self) -> Option<&mut Content>
+        ensures* writes_back { sem 𝓛 (LendsContent self.entry result) }
+        ensures value { option_map (λ c. c.now) result ≡ held_by self.old.full self.old.content }
+    {
+        if !self.full {
+            return None;
+        }
+        unsafe { Some(&mut *(self.at as *mut Content)) }
     }
 }

@@ -1,6 +1,6 @@
 //! How handles are filled and emptied.
 
-ghost use Rattle.std.specs.Prelude.{◌≡◌, ◌≢◌, ◌⊎◌, Some, None};
+ghost use Rattle.std.specs.Prelude.{◌≡◌, ◌≢◌, ◌⊎◌, ◌↔◌, Some, None, IsTrue};
 ghost use Rattle.std.specs.Option.{option_map};
 ghost use Rattle.apd_c.specs.Held.{held};
 ghost use Rattle.apd_c.specs.Answers.{answer};
@@ -20,6 +20,17 @@ impl Handle {
         match replace(self, Handle::empty()).opened(alloc) {
             None => None,
             Some(loose) => Some(loose.into_box()),
+        }
+    }
+
+    /// Whether it holds nothing.
+    pub(crate) fn is_empty(&mut self) -> bool
+        ensures is { IsTrue result ↔ (held self.old ≡ None) }
+        ensures kept { held self.new ≡ held self.old }
+    {
+        match self.lent() {
+            None => true,
+            Some(_) => false,
         }
     }
 

@@ -78,8 +78,7 @@ pub extern "C" fn apd_c_link(
     ensures kept { result ≢ 0 → held link.new ≡ held link.old }
     ensures number { IsLinkNumber network.now shapes.now (held link.old) result }
 {
-    if let Some(content) = link.take(alloc) {
-        link.put(content);
+    if !link.is_empty() {
         return NOT_EMPTY;
     }
     match made(alloc, network, shapes) {

@@ -73,13 +73,9 @@ fn listed_at(alloc: Global, link: &mut Handle, rows: Rows) -> Result<Content, u3
     ensures number { IsListedNumber (held link.old) (number_in result) }
     ensures kept { held link.new ≡ held link.old }
 {
-    match link.take(alloc) {
+    match link.lent() {
         None => Err(OTHER_VALUE),
-        Some(content) => {
-            let listed = listed_in(alloc, &content, rows);
-            link.put(content);
-            listed
-        }
+        Some(content) => listed_in(alloc, content, rows),
     }
 }
 
@@ -90,8 +86,7 @@ fn fill_listed(alloc: Global, link: &mut Handle, list: &mut Handle, rows: Rows) 
     ensures link { held link.new ≡ held link.old }
     ensures number { IsListNumber (held link.old) (held list.old) result }
 {
-    if let Some(content) = list.take(alloc) {
-        list.put(content);
+    if !list.is_empty() {
         return NOT_EMPTY;
     }
     match listed_at(alloc, link, rows) {
@@ -209,64 +204,48 @@ fn agreement_in(rows: &[AgreementInForce], at: usize) -> AgreementRow
 
 /// The number of stations that a handle holds; 0 if it holds none.
 #[unsafe(no_mangle)]
-pub extern "C" fn apd_c_stations(alloc: Global, list: &mut Handle) -> usize
+pub extern "C" fn apd_c_stations(list: &mut Handle) -> usize
     ensures count { result ≡ length (stations_of (held list.old)) }
     ensures kept { held list.new ≡ held list.old }
 {
-    match list.take(alloc) {
+    match list.lent() {
         None => 0,
-        Some(content) => {
-            let count = stations(&content).len();
-            list.put(content);
-            count
-        }
+        Some(content) => stations(content).len(),
     }
 }
 
 /// The station at an index of a list; its state is 0 if there is none.
 #[unsafe(no_mangle)]
-pub extern "C" fn apd_c_station(alloc: Global, list: &mut Handle, at: usize) -> StationRow
+pub extern "C" fn apd_c_station(list: &mut Handle, at: usize) -> StationRow
     ensures is { result ≡ station_row (slice_get (stations_of (held list.old)) at) }
     ensures kept { held list.new ≡ held list.old }
 {
-    match list.take(alloc) {
+    match list.lent() {
         None => station_in(&[], at),
-        Some(content) => {
-            let row = station_in(stations(&content), at);
-            list.put(content);
-            row
-        }
+        Some(content) => station_in(stations(content), at),
     }
 }
 
 /// The number of agreements that a handle holds; 0 if it holds none.
 #[unsafe(no_mangle)]
-pub extern "C" fn apd_c_agreements(alloc: Global, list: &mut Handle) -> usize
+pub extern "C" fn apd_c_agreements(list: &mut Handle) -> usize
     ensures count { result ≡ length (agreements_of (held list.old)) }
     ensures kept { held list.new ≡ held list.old }
 {
-    match list.take(alloc) {
+    match list.lent() {
         None => 0,
-        Some(content) => {
-            let count = agreements(&content).len();
-            list.put(content);
-            count
-        }
+        Some(content) => agreements(content).len(),
     }
 }
 
 /// The agreement at an index of a list; its size is 0 if there is none.
 #[unsafe(no_mangle)]
-pub extern "C" fn apd_c_agreement(alloc: Global, list: &mut Handle, at: usize) -> AgreementRow
+pub extern "C" fn apd_c_agreement(list: &mut Handle, at: usize) -> AgreementRow
     ensures is { result ≡ agreement_row (slice_get (agreements_of (held list.old)) at) }
     ensures kept { held list.new ≡ held list.old }
 {
-    match list.take(alloc) {
+    match list.lent() {
         None => agreement_in(&[], at),
-        Some(content) => {
-            let row = agreement_in(agreements(&content), at);
-            list.put(content);
-            row
-        }
+        Some(content) => agreement_in(agreements(content), at),
     }
 }

@@ -80,12 +80,7 @@ fn put_in(content: &mut Content, hook: Hook, accepted: Accepted) -> Result<(), (
 }
 
 /// The same if a handle holds an access point.
-fn put_at(
-    alloc: Global,
-    link: &mut Handle,
-    hook: u32,
-    accepted: Accepted,
-) -> Result<(), (u32, Accepted)>
+fn put_at(link: &mut Handle, hook: u32, accepted: Accepted) -> Result<(), (u32, Accepted)>
     ensures ok { OnOk result
         ((h : AHook) × (hook ≡ number_of h) × HasPut h accepted (held link.old) (held link.new)) }
     ensures err { OnErr result (held link.new ≡ held link.old) }
@@ -95,13 +90,9 @@ fn put_at(
     let Some(hook) = hook_of(hook) else {
         return Err((OUT_OF_LIMITS, accepted));
     };
-    match link.take(alloc) {
+    match link.lent() {
         None => Err((OTHER_VALUE, accepted)),
-        Some(mut content) => {
-            let done = put_in(&mut content, hook, accepted);
-            link.put(content);
-            done
-        }
+        Some(content) => put_in(content, hook, accepted),
     }
 }
 
@@ -127,7 +118,7 @@ pub extern "C" fn apd_c_link_load(
 {
     match take_code(alloc, code) {
         None => OTHER_VALUE,
-        Some((boxed, accepted)) => match put_at(alloc, link, hook, accepted) {
+        Some((boxed, accepted)) => match put_at(link, hook, accepted) {
             Ok(()) => 0,
             Err((number, accepted)) => {
                 let mut boxed = boxed;
@@ -160,7 +151,7 @@ fn unload_in(content: &mut Content, hook: Hook) -> u32
 /// 0: the hook has no program. 90: there is no such hook. 91: the handle holds no access point. All but 0 leave the
 /// handle unchanged. It allocates nothing.
 #[unsafe(no_mangle)]
-pub extern "C" fn apd_c_link_unload(alloc: Global, link: &mut Handle, hook: u32) -> u32
+pub extern "C" fn apd_c_link_unload(link: &mut Handle, hook: u32) -> u32
     ensures unloaded { result ≡ 0 →
         (h : AHook) × (hook ≡ number_of h) × HasUnloaded h (held link.old) (held link.new) }
     ensures kept { result ≢ 0 → held link.new ≡ held link.old }
@@ -169,12 +160,8 @@ pub extern "C" fn apd_c_link_unload(alloc: Global, link: &mut Handle, hook: u32)
     let Some(hook) = hook_of(hook) else {
         return OUT_OF_LIMITS;
     };
-    match link.take(alloc) {
+    match link.lent() {
         None => OTHER_VALUE,
-        Some(mut content) => {
-            let number = unload_in(&mut content, hook);
-            link.put(content);
-            number
-        }
+        Some(content) => unload_in(content, hook),
     }
 }

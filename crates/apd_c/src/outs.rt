@@ -7,7 +7,6 @@ ghost use Rattle.apd_c.specs.Outs.{body_of, head_of, nothing_out, outs_of, up_he
 use crate::certificates::copied;
 use crate::handle::{Content, Handle};
 use ap_core::{Out, Up};
-use std::alloc::Global;
 
 /// The outputs of an event, and the number that its caller gave it.
 #[derive(Drop)]
@@ -135,58 +134,43 @@ fn user(content: &Content) -> u64
 
 /// The number of outputs that a handle holds; 0 if it holds none.
 #[unsafe(no_mangle)]
-pub extern "C" fn apd_c_outs(alloc: Global, outs: &mut Handle) -> usize
+pub extern "C" fn apd_c_outs(outs: &mut Handle) -> usize
     ensures count { result ≡ length (outs_of (held outs.old)) }
     ensures kept { held outs.new ≡ held outs.old }
 {
-    match outs.take(alloc) {
+    match outs.lent() {
         None => 0,
-        Some(content) => {
-            let count = list(&content).len();
-            outs.put(content);
-            count
-        }
+        Some(content) => list(content).len(),
     }
 }
 
 /// The output at an index, without its bytes. Its kind is 0 if there is none at that index.
 #[unsafe(no_mangle)]
-pub extern "C" fn apd_c_out(alloc: Global, outs: &mut Handle, at: usize) -> OutHead
+pub extern "C" fn apd_c_out(outs: &mut Handle, at: usize) -> OutHead
     ensures is { result ≡
         head_of (user_of (held outs.old)) (slice_get (outs_of (held outs.old)) at) }
     ensures kept { held outs.new ≡ held outs.old }
 {
-    match outs.take(alloc) {
+    match outs.lent() {
         None => nothing(),
-        Some(content) => {
-            let head = head_in(user(&content), list(&content), at);
-            outs.put(content);
-            head
-        }
+        Some(content) => head_in(user(content), list(content), at),
     }
 }
 
 /// Copies as many bytes of the output at an index as fit, and returns how many it has.
 #[unsafe(no_mangle)]
-pub extern "C" fn apd_c_out_bytes(
-    alloc: Global,
-    outs: &mut Handle,
-    at: usize,
-    into: &mut [u8],
-) -> usize
+pub extern "C" fn apd_c_out_bytes(outs: &mut Handle, at: usize, into: &mut [u8]) -> usize
     ensures count { result ≡ length (body_of (slice_get (outs_of (held outs.old)) at)) }
     ensures copied { take (min result (length into.old)) into.new ≡
         take (min result (length into.old)) (body_of (slice_get (outs_of (held outs.old)) at)) }
     ensures kept { held outs.new ≡ held outs.old }
 {
-    match outs.take(alloc) {
+    match outs.lent() {
         None => 0,
         Some(content) => {
-            let body = body_in(list(&content), at);
+            let body = body_in(list(content), at);
             copied(body, into);
-            let count = body.len();
-            outs.put(content);
-            count
+            body.len()
         }
     }
 }

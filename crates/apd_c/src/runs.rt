@@ -11,7 +11,6 @@ use crate::maps::Maps;
 use bpf_helpers::{HookPort, WorkerView};
 use bpf_machine::{Accepted, Outcome, run};
 use bpf_regions::{Context, Frame, Shape};
-use std::alloc::Global;
 
 /// A program's inputs besides its frame and its maps: the clock, how many stations are associated (at most 2007), and
 /// the 32 bytes of its context.
@@ -151,7 +150,6 @@ fn run_contents(
 /// the hook for which the program was verified. All but 0 leave the maps unchanged.
 #[unsafe(no_mangle)]
 pub extern "C" fn apd_c_run(
-    alloc: Global,
     code: &mut Handle,
     maps: &mut Handle,
     frame: &[u8],
@@ -165,17 +163,14 @@ pub extern "C" fn apd_c_run(
     ensures number { IsRunNumber (held code.old) (held maps.old) frame.now given.now
         report.new.number }
 {
-    let Some(program) = code.take(alloc) else {
+    let Some(program) = code.lent() else {
         report.number = OTHER_VALUE;
         return;
     };
-    let Some(mut words) = maps.take(alloc) else {
-        code.put(program);
+    let Some(words) = maps.lent() else {
         report.number = OTHER_VALUE;
         return;
     };
-    let number = run_contents(&program, &mut words, frame, given, report);
-    maps.put(words);
-    code.put(program);
+    let number = run_contents(program, words, frame, given, report);
     report.number = number;
 }

@@ -90,22 +90,12 @@ fn access_in(content: &mut Content, map: u32, word: u32, operation: MapOp) -> Lo
 }
 
 /// One access to a word of the maps that a handle holds.
-pub(crate) fn access_at(
-    alloc: Global,
-    maps: &mut Handle,
-    map: u32,
-    word: u32,
-    operation: MapOp,
-) -> Loaded
+pub(crate) fn access_at(maps: &mut Handle, map: u32, word: u32, operation: MapOp) -> Loaded
     ensures { Operates (held maps.old) map word operation result (held maps.new) }
 {
-    match maps.take(alloc) {
+    match maps.lent() {
         None => Loaded::refused(OTHER_VALUE),
-        Some(mut content) => {
-            let loaded = access_in(&mut content, map, word, operation);
-            maps.put(content);
-            loaded
-        }
+        Some(content) => access_in(content, map, word, operation),
     }
 }
 
@@ -141,8 +131,7 @@ pub extern "C" fn apd_c_maps(
     ensures kept { result ≢ 0 → held maps.new ≡ held maps.old }
     ensures number { IsMapsNumber shapes.now (held maps.old) result }
 {
-    if let Some(content) = maps.take(alloc) {
-        maps.put(content);
+    if !maps.is_empty() {
         return NOT_EMPTY;
     }
     match made(alloc, shapes, draw) {
@@ -156,10 +145,10 @@ pub extern "C" fn apd_c_maps(
 ///
 /// 0: the word was loaded. 90: there is no such word. 91: the handle holds no maps. It allocates nothing.
 #[unsafe(no_mangle)]
-pub extern "C" fn apd_c_load(alloc: Global, maps: &mut Handle, map: u32, word: u32) -> Loaded
+pub extern "C" fn apd_c_load(maps: &mut Handle, map: u32, word: u32) -> Loaded
     ensures { Operates (held maps.old) map word Load result (held maps.new) }
 {
-    access_at(alloc, maps, map, word, MapOp::Load)
+    access_at(maps, map, word, MapOp::Load)
 }
 
 /// Stores a number, mod 2^(8 * width), in a word of a map.
@@ -167,17 +156,11 @@ pub extern "C" fn apd_c_load(alloc: Global, maps: &mut Handle, map: u32, word: u
 /// 0: it was stored. 90: there is no such word. 91: the handle holds no maps. All but 0 leave the maps unchanged. It
 /// allocates nothing.
 #[unsafe(no_mangle)]
-pub extern "C" fn apd_c_store(
-    alloc: Global,
-    maps: &mut Handle,
-    map: u32,
-    word: u32,
-    value: u64,
-) -> u32
+pub extern "C" fn apd_c_store(maps: &mut Handle, map: u32, word: u32, value: u64) -> u32
     ensures stored { result ≡ 0 →
         HasAccessed (held maps.old) map word (Store value) 0 (held maps.new) }
     ensures kept { result ≢ 0 → held maps.new ≡ held maps.old }
     ensures number { IsAccessNumber (held maps.old) map word result }
 {
-    access_at(alloc, maps, map, word, MapOp::Store(value)).number
+    access_at(maps, map, word, MapOp::Store(value)).number
 }
