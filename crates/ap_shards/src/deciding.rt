@@ -16,7 +16,7 @@ use ap_locked::{Journals, Locked, ShardToken};
 use ap_model::Event;
 use bpf_helpers::WorkerView;
 use hook_judge::{CountedState, SetJudge, judging_law};
-use std::sync::{Mutex, Wait};
+use std::sync::Wait;
 
 /// Decides the event with the shard's clock and number of stations.
 fn decide_at<B: Ledgers + Journals, const SHARD: usize>(
@@ -48,26 +48,6 @@ fn decide_at<B: Ledgers + Journals, const SHARD: usize>(
     }
 }
 
-/// Locks the shard, and decides the event.
-fn decide_under<B: Ledgers + Journals, const SHARD: usize, R: Wait>(
-    rt: &R,
-    lock: &Mutex<Locked<B, SHARD>>,
-    mine: &mut ShardToken<B, SHARD>,
-    desk: Desk<'_, '_>,
-    state: &mut CountedState,
-    event: &Event,
-) -> Fate
-    requires { IsFitting desk.maps.now desk.worker state.old.seats }
-    ensures fate { Comes (ByDesk desk.entry state.old state.new)
-        (rules SHARD B.config) mine.old event.now result mine.new }
-    ensures taken { WasTaken result }
-    ensures holds { HoldsOn result state.old state.new }
-    ensures fitting { IsFitting desk.entry.maps.now desk.entry.worker state.new.seats }
-{
-    let mut locked = lock.lock(rt);
-    decide_at(&mut *locked, mine, desk, state, event)
-}
-
 impl<B: Ledgers + Journals> Shards<B> {
     /// Decides an event under the lock of this shard, by the programs of a published set over a
     /// worker's tables, and counts their runs. `mine` then has its entry, and counts it. An event that is refused for lack of
@@ -90,14 +70,14 @@ impl<B: Ledgers + Journals> Shards<B> {
     {
         let (shard, event) = at;
         match shard {
-            0 => decide_under(rt, &self.of0, &mut mine.of0, desk, state, event),
-            1 => decide_under(rt, &self.of1, &mut mine.of1, desk, state, event),
-            2 => decide_under(rt, &self.of2, &mut mine.of2, desk, state, event),
-            3 => decide_under(rt, &self.of3, &mut mine.of3, desk, state, event),
-            4 => decide_under(rt, &self.of4, &mut mine.of4, desk, state, event),
-            5 => decide_under(rt, &self.of5, &mut mine.of5, desk, state, event),
-            6 => decide_under(rt, &self.of6, &mut mine.of6, desk, state, event),
-            7 => decide_under(rt, &self.of7, &mut mine.of7, desk, state, event),
+            0 => decide_at(&mut *self.of0.lock(rt), &mut mine.of0, desk, state, event),
+            1 => decide_at(&mut *self.of1.lock(rt), &mut mine.of1, desk, state, event),
+            2 => decide_at(&mut *self.of2.lock(rt), &mut mine.of2, desk, state, event),
+            3 => decide_at(&mut *self.of3.lock(rt), &mut mine.of3, desk, state, event),
+            4 => decide_at(&mut *self.of4.lock(rt), &mut mine.of4, desk, state, event),
+            5 => decide_at(&mut *self.of5.lock(rt), &mut mine.of5, desk, state, event),
+            6 => decide_at(&mut *self.of6.lock(rt), &mut mine.of6, desk, state, event),
+            7 => decide_at(&mut *self.of7.lock(rt), &mut mine.of7, desk, state, event),
             _ => unreachable!(),
         }
     }
