@@ -8,8 +8,9 @@ use crate::answer::{OTHER_HOOK, OTHER_MAPS, OTHER_VALUE, OUT_OF_LIMITS};
 use crate::call_port::CallPort;
 use crate::handle::{Content, Handle};
 use crate::maps::Maps;
+use arrayvec::ArrayVec;
 use bpf_helpers::{HookPort, WorkerView};
-use bpf_machine::{Accepted, Outcome, run};
+use bpf_machine::{Accepted, Exit, run_noting};
 use bpf_regions::{Context, Frame, Shape};
 
 /// A program's inputs besides its frame and its maps: the clock, how many stations are associated (at most 2007), and
@@ -35,15 +36,15 @@ pub struct Report {
 
 /// Reports a run, without its number. The array beyond the run's notes is unchanged.
 #[inline(always)]
-fn tell(outcome: &Outcome, report: &mut Report)
-    ensures r0 { report.new.r0 ≡ outcome.now.r0 }
-    ensures steps { report.new.steps ≡ outcome.now.steps }
-    ensures notes { take report.new.count report.new.notes ≡ outcome.now.notes.items }
+fn tell(exit: Exit, notes: &ArrayVec<u64, 16>, report: &mut Report)
+    ensures r0 { report.new.r0 ≡ exit.r0 }
+    ensures steps { report.new.steps ≡ exit.steps }
+    ensures notes { take report.new.count report.new.notes ≡ notes.now.items }
 {
-    let listed = outcome.notes.as_slice();
+    let listed = notes.as_slice();
     let count = listed.len();
-    report.r0 = outcome.r0;
-    report.steps = outcome.steps;
+    report.r0 = exit.r0;
+    report.steps = exit.steps;
     report.count = count;
     if count == 0 {
         return;
@@ -83,8 +84,9 @@ fn run_over(accepted: &Accepted, maps: &mut Maps, frame: &Frame, given: &Given, 
     let mut port = CallPort {
         port: HookPort { view, state },
     };
-    let outcome = run(accepted, frame, &context, &mut port);
-    tell(&outcome, report);
+    let mut notes = ArrayVec::new();
+    let exit = run_noting(accepted, frame, &context, &mut port, &mut notes);
+    tell(exit, &notes, report);
 }
 
 /// Runs a program on a frame over its maps, and returns the number.

@@ -22,6 +22,6 @@ pub use bare::Bare;
 pub use bpf_bare::Word;
 pub use bpf_tagged::Port;
 pub use list_port::ListPort;
-pub use outcome::{Outcome, Probe, Step};
-pub use running::run;
+pub use outcome::{Exit, Outcome, Probe, Step};
+pub use running::{run, run_noting};
 pub use tracing::trace;

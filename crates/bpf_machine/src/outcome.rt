@@ -10,6 +10,13 @@ pub struct Outcome {
     pub notes: ArrayVec<u64, 16>,
 }
 
+/// How a run ended: R0, and the number of steps counting EXIT.
+#[derive(Clone, Copy, Debug, PartialEq, Eq)]
+pub struct Exit {
+    pub r0: u64,
+    pub steps: u32,
+}
+
 /// The result of a run within a limit of steps.
 #[derive(Drop)]
 pub enum Probe {

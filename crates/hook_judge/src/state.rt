@@ -9,8 +9,9 @@ ghost use Rattle.hook_judge.specs.Sums.{no_counts};
 
 use crate::hook_counts::HookCounts;
 use crate::run::ProgramRun;
-use bpf_helpers::{WorkerState, WorkerView, run_hook};
-use bpf_machine::{Accepted, Outcome};
+use arrayvec::ArrayVec;
+use bpf_helpers::{HookPort, WorkerState, WorkerView};
+use bpf_machine::{Accepted, Exit, Outcome, run_noting};
 use bpf_regions::{Context, Frame};
 use std::alloc::{AllocError, Global};
 use std::marker::Model;
@@ -42,6 +43,7 @@ impl CountedState {
     }
 
     /// Runs a program that the load with this number put in force, as `run_hook` does, and counts the run.
+    #[inline(always)]
     pub fn run(
         &mut self,
         accepted: &Accepted,
@@ -59,16 +61,19 @@ impl CountedState {
         ensures fitting { IsFitting view.entry.maps.now view.entry.worker self.new.seats }
         ensures counted { self.new.counts ≡ counted_by load accepted.now result self.old.counts }
     {
-        let outcome = run_hook(accepted, frame, context, view, &mut self.state);
+        let state = &mut self.state;
+        let mut port = HookPort { view, state };
+        let mut notes = ArrayVec::new();
+        let Exit { r0, steps } = run_noting(accepted, frame, context, &mut port, &mut notes);
         let run = ProgramRun {
             load,
             budget: accepted.budget(),
-            verdict: outcome.r0,
-            steps: outcome.steps,
-            notes: &outcome.notes,
+            verdict: r0,
+            steps,
+            notes: &notes,
         };
         self.counts.count(accepted.hook(), run);
-        outcome
+        Outcome { r0, steps, notes }
     }
 
     /// What was counted. From here on it counts anew.

@@ -1,4 +1,4 @@
-use Rattle.std.proofs.Common.{◌≡◌, List, Option, Some, IfSome, ap, sym, ◌∙◌, subst, Bor}
+use Rattle.std.proofs.Common.{List, Option, IfSome, ap, sym, ◌∙◌, subst, Bor}
 use Rattle.std.specs.Option.{option_copied}
 use Rattle.bpf_regions.specs.declared.maps.Shape.{Shape}
 use Rattle.bpf_decode.specs.Program.{Code}
