@@ -1,6 +1,5 @@
 -- Taking lines one after another.
 use Rattle.std.specs.Prelude.{◌≡◌, ℕ, ◌+◌, Option, List, [], ◌∷◌, ◌++◌, Some, None, Bool, true, false, if◌then◌else◌, refl}
-use Rattle.std.specs.List.{All}
 use Rattle.std.proofs.Common.{◌∙◌, ap, sym, subst, append-nil}
 use Rattle.std.proofs.lemmas.List.Elements.{All-head, All-tail, All-push}
 use Rattle.std.proofs.lemmas.List.{map-append}

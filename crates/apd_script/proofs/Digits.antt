@@ -1,7 +1,7 @@
 -- Texts of hex digits.
-use Rattle.std.specs.Prelude.{◌≡◌, ℕ, ◌%◌, List, [], ◌∷◌, length, Bool, true, false, ◌||◌, ◌&&◌, Some, None, is_some, Result, Ok, Err, is_ok, refl, nat_le, if◌then◌else◌}
+use Rattle.std.specs.Prelude.{IsOk, ◌<◌, slice_index, ◌≡◌, ℕ, ◌%◌, List, [], ◌∷◌, length, Bool, true, false, ◌||◌, ◌&&◌, Some, None, is_some, Result, Ok, Err, is_ok, refl, nat_le, if◌then◌else◌}
 use Rattle.std.proofs.Common.{sym, ◌∙◌}
-use Rattle.std.specs.List.{list_all}
+use Rattle.std.specs.List.{AllPass, list_all}
 use Rattle.std.specs.Char.{is_ascii_hexdigit}
 use Rattle.std.proofs.lemmas.List.Sums.{AllPass-from_list_all, list_all-from_AllPass}
 use Rattle.hex.specs.Hex.{decode_of, is_hex_digit}
@@ -44,3 +44,14 @@ is_ok-even s even = are_same s ∙ by_test (list_all is_hex_digit s) refl
     by_test : (b : Bool) → list_all is_hex_digit s ≡ b → b ≡ is_ok (decode_of s)
     by_test true e = is_ok-digits s even e
     by_test false e = is_ok-no_digit s e
+
+-- the characters of a text that spells bytes are digits
+pub all_digits : (s : List ℕ) → IsOk (decode_of s) → AllPass is_hex_digit s
+all_digits s ok = by_answer (decode_of s) refl ok
+  where
+    by_answer : (r : Result (List ℕ) FromHexError) → decode_of s ≡ r → is_ok r ≡ true → AllPass is_hex_digit s
+    by_answer (Ok bytes) h e = (decode_of-ok s bytes h).1
+    by_answer (Err why) h e = cc e
+
+pub digit_in : (s : List ℕ) (k : ℕ) → IsOk (decode_of s) → k < length s → is_hex_digit (slice_index s k) ≡ true
+digit_in s k ok within = all_digits s ok k 0 within

@@ -7,3 +7,4 @@ mod Reading
 mod Batching
 mod Chunks
 mod Quitting
+mod Plain

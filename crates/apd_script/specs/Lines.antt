@@ -1,5 +1,5 @@
 -- What a line of a script asks for, by its words.
-use Rattle.std.specs.Prelude.{ℕ, ◌+◌, ◌*◌, ◌^◌, List, [], ◌∷◌, length, codes, Option, Some, None, option_map, option_and_then, IsSome, Bool, true, false, slice_get, if◌then◌else◌, IsUtf8}
+use Rattle.std.specs.Prelude.{◌≡◌, ℕ, ◌+◌, ◌*◌, ◌^◌, List, [], ◌∷◌, length, codes, Option, Some, None, option_map, option_and_then, IsSome, Bool, true, false, slice_get, if◌then◌else◌, IsUtf8}
 use Rattle.std.specs.List.{list_any}
 use Rattle.std.specs.Result.{result_ok}
 use Rattle.std.specs.Str.{bytes_eq}
@@ -7,8 +7,9 @@ use Rattle.hex.specs.Hex.{decode_of}
 use Rattle.bpf_regions.specs.declared.maps.Scope.{Scope}
 use Rattle.bpf_regions.specs.declared.maps.Scope.TheVariants.{Shared, Worker}
 use Rattle.bpf_regions.specs.declared.maps.Shape.{Shape}
+use Rattle.apd_script.specs.declared.command.Command.{Command}
 use Rattle.apd_script.specs.declared.command.MapWord.{MapWord}
-use Rattle.apd_script.specs.Asked.{Asked, Frame, Tick, Kick, Close, Load, Unload, Adopt, Store, Read, Sum, Wait}
+use Rattle.apd_script.specs.Asked.{Asked, asked_of, NamesWord, Frame, Tick, Kick, Close, Load, Unload, Adopt, Store, Read, Sum, Wait}
 use Rattle.apd_script.specs.Words.{words, is_forbidden, begins_comment, number_below, address, hook_named}
 
 infixl 10 ◌>>=◌
@@ -140,3 +141,9 @@ line_asks maps line = option_and_then (λ said. said) (text_said maps line)
 pub record IsWellFormed (maps : List Shape) (line : List ℕ) : Type 0 where
   pub utf8 : IsUtf8 line
   pub said : IsSome (text_said maps line)
+
+-- the line asks for the command
+pub record Reads (maps : List Shape) (line : List ℕ) (command : Command) : Type 0 where
+  pub said : text_said maps line ≡ Some (Some (asked_of command))
+  pub asks : line_asks maps line ≡ Some (asked_of command)
+  pub within : NamesWord maps command

@@ -4,9 +4,10 @@ ghost use Rattle.std.specs.Prelude.{◌≡◌, ◌<◌, ◌≤◌, ◌++◌, ◌
 ghost use Rattle.std.specs.List.{list_any};
 ghost use Rattle.apd_script.specs.Asked.{asked_by, NamesWord};
 ghost use Rattle.apd_script.specs.Words.{words, if_some, BeginsWith, texts, is_forbidden, begins_comment};
-ghost use Rattle.apd_script.specs.Lines.{says, line_asks, IsWellFormed};
+ghost use Rattle.apd_script.specs.Lines.{says, line_asks, IsWellFormed, Reads};
 
 use crate::command::Command;
+use crate::hex_text::HexText;
 use crate::operands::command;
 use bpf_regions::Shapes;
 use std::str;
@@ -103,6 +104,18 @@ pub fn has_forbidden(line: &[u8]) -> bool
     found
 }
 
+/// The command of a line that is `frame`, one space and hex digits, as most lines are. Of another line nothing is known.
+fn plain_frame<'a>(text: &'a str) -> Option<Command<'a>>
+    ensures reads { IfSome result (λ command. (maps : _) → Reads maps text.entry.now command) }
+{
+    let digits = text.strip_prefix("frame ")?;
+    if digits.is_empty() {
+        return None;
+    }
+    let spelt = HexText::new(digits)?;
+    Some(Command::Frame(spelt))
+}
+
 /// What a line asks for, if anything.
 pub(crate) fn read_line<'a>(
     shapes: &Shapes,
@@ -115,6 +128,9 @@ pub(crate) fn read_line<'a>(
     let Ok(text) = str::from_utf8(line) else {
         return Err(Malformed);
     };
+    if let Some(command) = plain_frame(text) {
+        return Ok(Some(command));
+    }
     if has_forbidden(line) {
         return Err(Malformed);
     }
