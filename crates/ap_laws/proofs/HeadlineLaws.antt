@@ -5,7 +5,7 @@ use Rattle.ap_model.specs.Readings.{Readings, Rules}
 use Rattle.ap_model.specs.Runs.{Entry, Handles, Run, rests, goes_on, opening}
 use Rattle.ap_model.specs.AccessPoint.{entries_of}
 use Rattle.ap_model.proofs.Appending.{run_append}
-use Rattle.ap_laws.specs.Headline.{LinkHolds, EventsHold, AccessPointsHold, WindowsStandApart, LinkWindowsStandApart}
+use Rattle.ap_laws.specs.Headline.{LinkHolds, RunsHold, EventsHold, AccessPointsHold, WindowsStandApart, LinkWindowsStandApart}
 use Rattle.ap_laws.proofs.IdentifierLaws.{opening_holds, runs_hold, access_points_hold}
 use Rattle.ap_laws.proofs.OriginLaws.{opening_agrees, runs_hold_agreements, from_the_opening}
 use Rattle.ap_laws.proofs.OrderLaws.{tells_one, goes_on_in_order, ends_in_order, drops_silently}
@@ -58,6 +58,9 @@ link_holds c entries r run =
           drops_silently c before at.mid one.next e a tid at.first one.step g since agreed drop;
       identifiers = runs_hold c opening r entries (opening_holds c) run;
     }
+
+pub each_run_holds : RunsHold
+each_run_holds c r entries run = link_holds c entries r run
 
 pub events_hold : {S : Type 0} (R : S → Ask → ℕ → S → Type 0) → EventsHold R
 events_hold R c r r2 entries event j j2 outs run handled =

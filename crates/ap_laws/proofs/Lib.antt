@@ -24,6 +24,6 @@ pub mod RereadLaws
 pub mod HistoryLaws
 pub mod Example
 pub mod AgreedExample
-mod HeadlineLaws
-mod AskLaws
+pub mod HeadlineLaws
+pub mod AskLaws
 mod AppendLaws

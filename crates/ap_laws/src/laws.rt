@@ -17,17 +17,22 @@ use ap_model::Judge;
 /// numbers below its window's start have been passed up of each agreement, once each, in increasing
 /// order, and all that it accepted once it ends or is replaced; no two stations hold one
 /// identifier; and no verdict on data moves a window.
+///
+/// Of what it is made: all that holds of a shard's entries if they are a run from the opening. Runs one after another form a
+/// run, of a shard, and of eight with a judge; if each of eight shards has a history, there are eight histories together. A
+/// step asks for at most one verdict, on the received frame, with the hook and the context of its kind, and a judge's list
+/// grows by exactly the queries that a contract names.
 pub fn link_law<J: Judge>()
     ensures access_point { AccessPointsHold J.gives }
     ensures shard { EventsHold J.gives }
+    ensures run { RunsHold }
     ensures windows { LinkWindowsStandApart }
     ensures windows_of_a_shard { WindowsStandApart }
-{}
-
-/// The link's half of the main theorem for one shard: what `link_law` says holds of its entries so
-/// far, if they are a run from the opening.
-pub fn run_law()
-    ensures { RunsHold }
+    ensures appended { RunsAppend }
+    ensures appended_with_judge { LeadsAppend J.gives }
+    ensures histories { HistoriesMeet }
+    ensures asked_once { StepsAskOnce }
+    ensures listed { ListsAsks J.asks J.gives }
 {}
 
 /// A verdict on data never moves a window (IEEE 802.11-2016, 10.24.7.6). Take two runs over the
@@ -76,19 +81,4 @@ pub fn history_law()
     ensures steps { ReadingsServe }
     ensures going_on { ReadingsGoOn }
     ensures runs { RunsAreHistories }
-{}
-
-/// Runs one after another form a run: of a shard, and of eight with a judge. If each of eight
-/// shards has a history, there are eight histories together.
-pub fn appending_law<J: Judge>()
-    ensures runs { RunsAppend }
-    ensures leads { LeadsAppend J.gives }
-    ensures histories { HistoriesMeet }
-{}
-
-/// A step asks for at most one verdict, on the received frame, with the hook and the context of its
-/// kind. A judge's list grows by exactly the queries that a contract names.
-pub fn asks_law<J: Judge>()
-    ensures once { StepsAskOnce }
-    ensures listed { ListsAsks J.asks J.gives }
 {}

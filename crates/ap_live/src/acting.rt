@@ -8,7 +8,6 @@ use crate::live::LiveAp;
 use crate::tokens::OperatorToken;
 use ap_books::Ledgers;
 use ap_core::shard_of;
-use ap_laws::run_law;
 use ap_locked::Journals;
 use ap_model::{Event, Out};
 use std::alloc::{AllocError, Global};
@@ -33,7 +32,6 @@ impl<B: Ledgers + Journals> LiveAp<B> {
         ensures refused { IfErr result (λ _. operator.new ≡ operator.old) }
         ensures same { operator.new ≡ record operator.old { shards = operator.new.shards } }
     {
-        run_law();
         let Some(shard) = shard_of(event) else {
             unreachable!()
         };

@@ -35,7 +35,7 @@ pub use ap_core::{AgreementInForce, Known, KnownStation};
 pub use ap_queues::Item;
 pub use ap_shards::Fate;
 pub use gate::{Gate, OpenGate};
-pub use laws::{newcomers_law, tokens_law};
+pub use laws::tokens_law;
 pub use live::{LiveAp, Settings};
 pub use opening::Opened;
 pub use tagged::Tagged;

@@ -14,7 +14,6 @@ use crate::live::LiveAp;
 use crate::tagged::Tagged;
 use crate::tokens::WorkerToken;
 use ap_books::Ledgers;
-use ap_laws::run_law;
 use ap_locked::Journals;
 use ap_queues::Item;
 use ap_shards::{Desk, Fate, ShardTokens};
@@ -50,7 +49,6 @@ impl<B: Ledgers + Journals> LiveAp<B> {
         ensures headline { WorkerHeadline B.config self.now worker.old worker.new list.old.items
             list.new.items }
     {
-        run_law();
         for _ in rt.forever() {
             if list.reserve(1).is_err() {
                 return Err(AllocError);

@@ -7,7 +7,6 @@ ghost use Rattle.ap_live.specs.Upholding.{UpholdAll, own_counts};
 
 use crate::tokens::{LeftTokens, OperatorToken, WorkerToken};
 use ap_books::Ledgers;
-use ap_laws::run_law;
 use ap_locked::Journals;
 
 impl<B: Ledgers + Journals> WorkerToken<B> {
@@ -16,7 +15,6 @@ impl<B: Ledgers + Journals> WorkerToken<B> {
         ensures upholds { UpholdAll B.config self.now.shards }
         ensures counted { counted_by self.now.shards ≡ own_counts self.now.shards }
     {
-        run_law();
         self.shards.known();
     }
 
@@ -50,7 +48,6 @@ impl<B: Ledgers + Journals> OperatorToken<B> {
         ensures upholds { UpholdAll B.config self.now.shards }
         ensures counted { counted_by self.now.shards ≡ own_counts self.now.shards }
     {
-        run_law();
         self.shards.known();
     }
 }
@@ -61,7 +58,6 @@ impl<B: Ledgers + Journals> LeftTokens<B> {
         ensures upholds { UpholdAll B.config self.now.shards }
         ensures counted { counted_by self.now.shards ≡ own_counts self.now.shards }
     {
-        run_law();
         self.shards.known();
     }
 }

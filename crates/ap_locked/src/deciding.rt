@@ -1,7 +1,8 @@
 //! One event, under the lock of its shard.
 
 ghost use Rattle.std.specs.Prelude.{◌≡◌, IfOk, IfErr};
-ghost use Rattle.ap_locked.specs.Kept.{Decided};
+ghost use Rattle.ap_core.specs.Handles.{rules};
+ghost use Rattle.ap_locked.specs.Kept.{Decided, Holds};
 
 use crate::entry::{Deed, Signing};
 use crate::locked::Locked;
@@ -9,7 +10,6 @@ use crate::naming::Journals;
 use crate::token::ShardToken;
 use ap_books::Ledgers;
 use ap_core::Outcome;
-use ap_laws::asks_law;
 use ap_model::{Event, Judge, Out};
 use std::alloc::{AllocError, Global};
 use std::snapshot::Snapshot;
@@ -30,10 +30,10 @@ impl<B: Ledgers + Journals, const SHARD: usize> Locked<B, SHARD> {
         ensures entry { IfOk result
             (λ r. Decided J.gives self.old mine.old event.now judge.old r.0.items r.1 self.new
             mine.new judge.new) }
+        ensures holds { IfOk result (λ _. Holds (rules SHARD B.config) self.old) }
         ensures refused { IfErr result
             (λ _. (self.new ≡ self.old) × (mine.new ≡ mine.old) × (judge.new ≡ judge.old)) }
     {
-        asks_law::<J>();
         if !self.author.prepare(&self.journal) {
             return Err(AllocError);
         }

@@ -18,7 +18,6 @@ use crate::token::ShardToken;
 use ap_books::{Ledgers, ShardBooks, Shares, Totals};
 use ap_core::{AgreementInForce, KnownStation, Shard};
 use ap_journal::{Author, Known, Past};
-use ap_laws::run_law;
 use ap_model::LinkConfig;
 use std::alloc::{AllocError, Global};
 use std::marker::Model;
@@ -90,19 +89,12 @@ impl<B: Ledgers + Journals, const SHARD: usize> Locked<B, SHARD> {
         Ok((locked, token, others))
     }
 
-    /// Proves what holds under each lock; does nothing at run time.
-    pub fn known(&self)
-        ensures { Holds (rules SHARD B.config) self.now }
-    {
-        let _books = &self.books;
-    }
-
     /// Proves the main theorem of the shard at this moment; does nothing at run time.
+    #[tactic(auto, using(ap_laws::proofs::HeadlineLaws::link_holds))]
     pub fn headline(&self)
         ensures { LinkHolds (rules SHARD B.config) self.now.journal (readings_of self.now) }
     {
-        run_law();
-        self.known();
+        let _books = &self.books;
     }
 
     /// The sum of the ticks so far, at most 2^64 - 1.
@@ -140,6 +132,7 @@ impl<B: Ledgers + Journals, const SHARD: usize> Locked<B, SHARD> {
         ensures same { self.new ≡ self.old }
         ensures seen { OnOk result (mine.new.seen ≡ self.old.journal) }
         ensures keeps { KeepsOwn mine.old mine.new }
+        ensures holds { OnOk result (Holds (rules SHARD B.config) self.old) }
     {
         if !self.author.prepare(&self.journal) {
             return Err(AllocError);

@@ -22,7 +22,6 @@ fn act_at<B: Ledgers + Journals, const SHARD: usize>(
         mine.old event.now outs.items mine.new) }
     ensures refused { IfErr result (λ _. mine.new ≡ mine.old) }
 {
-    locked.known();
     let mut nobody = ListJudge::new(&[]);
     let (outs, _) = locked.decide(alloc, mine, event, &mut nobody)?;
     Ok(outs)

@@ -15,7 +15,7 @@ use ap_books::Ledgers;
 use ap_locked::{Journals, Locked, ShardToken};
 use ap_model::Event;
 use bpf_helpers::WorkerView;
-use hook_judge::{CountedState, SetJudge, judging_law};
+use hook_judge::{CountedState, SetJudge};
 use std::sync::Wait;
 
 /// Decides the event with the shard's clock and number of stations.
@@ -33,8 +33,6 @@ fn decide_at<B: Ledgers + Journals, const SHARD: usize>(
     ensures holds { HoldsOn result state.old state.new }
     ensures fitting { IsFitting desk.entry.maps.now desk.entry.worker state.new.seats }
 {
-    judging_law();
-    locked.known();
     let view = WorkerView {
         maps: desk.maps,
         worker: desk.worker,

@@ -26,7 +26,6 @@ fn stations_at<B: Ledgers + Journals, const SHARD: usize>(
         (rules SHARD B.config) mine.old mine.new before.items all.items)) }
     ensures keeps { KeepsOwn mine.old mine.new }
 {
-    locked.known();
     locked.show(mine)?;
     let mut rows = rows?;
     let more = locked.known_stations(alloc)?;
@@ -61,7 +60,6 @@ fn agreements_at<B: Ledgers + Journals, const SHARD: usize>(
         (rules SHARD B.config) mine.old mine.new before.items all.items)) }
     ensures keeps { KeepsOwn mine.old mine.new }
 {
-    locked.known();
     locked.show(mine)?;
     let mut rows = rows?;
     let more = locked.agreements(alloc)?;

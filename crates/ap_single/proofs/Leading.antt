@@ -2,6 +2,7 @@
 use Rattle.std.proofs.Common.{◌≡◌, ℕ, ◌<◌, Option, Some, None, List, [], ◌∷◌, suc, length, refl, sym, ap, subst}
 use Rattle.bpf_helpers.specs.Tables.{Tables}
 use Rattle.bpf_helpers.specs.Hooked.{Given, Held}
+use Rattle.bpf_helpers.specs.HookPorts.{given_by}
 use Rattle.ap_model.specs.declared.event.Event.{Event}
 use Rattle.ap_model.specs.declared.event.Event.TheVariants as event
 use Rattle.ap_model.specs.declared.event.Out.{Out}
@@ -12,6 +13,9 @@ use Rattle.ap_model.specs.AccessPoint.{Turn, AreTurns, no_event, refused, at_its
 use Rattle.ap_core.specs.AccessPoints.{rules_of, readings_of, RunsAll}
 use Rattle.program_judge.specs.declared.judge.ProgramJudge.{ProgramJudge}
 use Rattle.program_judge.specs.Judges.{Judges}
+use Rattle.program_judge.specs.Programs.{Programs}
+use Rattle.program_judge.specs.Verdicts.{GivesVerdict}
+use Rattle.program_judge.proofs.Judging.{judged}
 use Rattle.ap_single.specs.Leading.{Parts, IsGiven, IsLike, Leads}
 
 not_cons : {A : Type 0} (x : A) (xs : List A) → [] ≡ x ∷ xs → ⊥
@@ -88,4 +92,20 @@ module _ (a a' : Parts) (e : Event) where
         };
         rules = like.rules;
         programs = like.programs;
+      }
+
+  -- what a judge by the programs leads to
+  pub led_by : (maps : List Tables) (j k : ProgramJudge) (result : Option (List Out)) → RunsAll Judges a.shards (e ∷ []) j (result ∷ []) a'.shards k → ((s : ℕ) → shard_of e ≡ Some s → IsGiven maps (readings_of a.shards s) (given_by j.view)) → j.programs.now ≡ a.programs → a'.programs ≡ a.programs → Leads a e maps j.state.now result a' k.state.now
+  led_by maps j k result ran given same kept =
+      record {
+        given = given_by j.view;
+        is_given = given;
+        leads = record {
+          turns = ran.leads.turns;
+          are = ran.leads.are;
+          run = ran.leads.run;
+          listed = subst (λ (p : Programs). Answered (GivesVerdict (given_by j.view) p) j.state.now (asked_of ran.leads.turns) k.state.now) same (judged j k (asked_of ran.leads.turns) ran.leads.listed).1;
+        };
+        rules = ran.rules;
+        programs = kept;
       }

@@ -17,7 +17,7 @@ use bpf_helpers::{MapTables, WorkerState};
 use bpf_machine::Accepted;
 use bpf_regions::{Hook, Shapes};
 use mac_types::{Address, Tid};
-use program_judge::{ProgramJudge, Programs, judged_law};
+use program_judge::{ProgramJudge, Programs};
 use std::alloc::{AllocError, Global};
 use std::marker::Model;
 
@@ -112,6 +112,7 @@ impl AccessPoint {
     /// Handles an event at the shards that it concerns, as `ap_core::handle_one` does, judged by the programs over
     /// these maps. None if it is refused for lack of memory, which leaves the readings, the programs and `state`
     /// unchanged.
+    #[tactic(auto, using(program_judge::proofs::Judging::judged))]
     pub fn handle(
         &mut self,
         alloc: Global,
@@ -126,7 +127,6 @@ impl AccessPoint {
         ensures refused { result ≡ None → IsLike self.old self.new × (state.new ≡ state.old) }
         ensures fitting { IsFitting maps.now 0 state.new.seats }
     {
-        judged_law();
         let view = view_at(&self.shards, &event, maps);
         let mut judge = ProgramJudge::new(&self.programs, view, state);
         handle_one(alloc, &mut self.shards, &event, &mut judge)

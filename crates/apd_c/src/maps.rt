@@ -4,7 +4,7 @@ ghost use Rattle.std.specs.Prelude.{◌≡◌, ◌≢◌, ◌≤◌, ◌⊎◌, 
 ghost use Rattle.bpf_helpers.specs.Hooked.{IsFitting, shapes_of};
 
 use ap_tables::ApTables;
-use bpf_helpers::{WorkerState, tables_law};
+use bpf_helpers::WorkerState;
 use bpf_regions::Shapes;
 use shared_maps::MapFault;
 use std::alloc::Global;
@@ -27,7 +27,6 @@ impl Maps {
         ensures shapes { IfOk result (λ m. m.shapes ≡ shapes) }
         ensures draw { IfOk result (λ m. m.state.draw ≡ draw) }
     {
-        tables_law();
         let mut tables = ApTables::new(alloc, &shapes, 1)?;
         let hand = tables.worker(alloc, 0, 0)?;
         let state = tables.worker(alloc, 0, draw)?;

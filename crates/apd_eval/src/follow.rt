@@ -18,7 +18,6 @@ use crate::ruling::Ruling;
 use crate::tried::Policy;
 use crate::witness::Witness;
 use ap_core::{Event, LinkConfig, Shard, new_shards};
-use ap_laws::asks_law;
 use ap_model::Octets;
 use apd_policies::{first_time, unit};
 use bpf_regions::{Frame, Hook};
@@ -186,7 +185,6 @@ pub(crate) fn follow<'a, S: TakesRows<'a>>(
     ensures rows { IfOk result (λ _. IsHandedOn S.takes policy.entry replay.entry.link.now
         (packets_in replay.entry.recording.bytes.now) state.old sink.old state.new sink.new) }
 {
-    asks_law::<Witness>();
     let mut shards = new_shards(alloc, replay.link)?;
     let start = first_time(alloc, replay.recording)?;
     let mut walk = replay.recording.walk(alloc);

@@ -3,7 +3,7 @@
 //!
 //! Main calls: `Agreement::on_data`, `on_bar` and `bitmap`; `hold` for data that waits, and `pass_to` for wanted data
 //! whose frames go to a `Sink`. It depends on `arrayvec`. Each call is its step of the window and of the scoreboard. By
-//! its laws each accepted number is passed up once, in increasing order, and windows don't depend on what frames hold.
+//! `window_law` each accepted number is passed up once, in increasing order, and windows don't depend on what frames hold.
 #![tactic(auto)]
 
 mod agreement;
@@ -13,5 +13,5 @@ mod scoreboard;
 mod sink;
 
 pub use agreement::{Agreement, Placed};
-pub use laws::{order_law, window_law};
+pub use laws::window_law;
 pub use sink::Sink;

@@ -19,4 +19,4 @@ pub use map_tables::MapTables;
 pub use plain_map::PlainMap;
 pub use plain_port::PlainPort;
 pub use running::run_hook;
-pub use worker::{WorkerState, WorkerView, tables_law};
+pub use worker::{WorkerState, WorkerView};

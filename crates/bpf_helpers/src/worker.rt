@@ -1,12 +1,11 @@
 //! What the programs of one worker read and change.
 
-ghost use Rattle.std.specs.Prelude.{◌≡◌, ◌<◌, ◌≤◌, List, ℕ, length, slice_get, Some, IfOk};
+ghost use Rattle.std.specs.Prelude.{◌≡◌, ◌<◌, ◌≤◌, length, slice_get, Some, IfOk};
 ghost use Rattle.bpf_regions.specs.Maps.{word_count};
 ghost use Rattle.shared_maps.specs.History.{IsAnswer};
 ghost use Rattle.shared_maps.specs.Tables.{Place};
 ghost use Rattle.bpf_helpers.specs.Draws.{next_draw};
-ghost use Rattle.bpf_helpers.specs.Tables.{Tables};
-ghost use Rattle.bpf_helpers.specs.Hooked.{HaveTables, IsFitting, KeepTables, AccessedBy, shapes_of};
+ghost use Rattle.bpf_helpers.specs.Hooked.{HaveTables, IsFitting, KeepTables, AccessedBy};
 
 use crate::draws::drawn_after;
 use crate::map_tables::MapTables;
@@ -93,13 +92,3 @@ impl WorkerState {
         table.access(&mut self.seats[at], word, operation)
     }
 }
-
-/// As long as the tables stay the same ones, the maps keep their shapes, and a worker's seats fit them.
-pub fn tables_law()
-    ensures shapes { (maps maps' : List Tables) →
-        KeepTables maps maps' → shapes_of maps' ≡ shapes_of maps }
-    ensures tables { (maps maps' : List Tables) (worker : ℕ) →
-        KeepTables maps maps' → HaveTables maps worker → HaveTables maps' worker }
-    ensures fitting { (maps maps' : List Tables) (worker : ℕ) (seats : List Place) →
-        KeepTables maps maps' → IsFitting maps worker seats → IsFitting maps' worker seats }
-{}

@@ -1,4 +1,4 @@
-//! The laws of intervals, unsigned and signed. Each law's function does nothing.
+//! The law of intervals, unsigned and signed.
 
 ghost use Rattle.std.specs.Prelude.{ℕ, ◌*◌, ◌/◌, ◌%◌, ◌^◌, ◌<◌, ◌≤◌, bit_and, bit_or};
 ghost use Rattle.bpf_words.specs.Word.{word_add, word_sub, quotient, remainder};
@@ -9,6 +9,10 @@ ghost use Rattle.bpf_interval.specs.Laws.{ContainsResults, ContainsSigned, CutCo
 /// Intervals are sound. Each operation contains every result of the machine's operation on members, and an interval of
 /// words of n bits each of these. Each refinement returns `Some` if anything takes its branch, and keeps all that does.
 /// Each member of an included interval is a member of the other.
+///
+/// So are signed intervals. `place` is its own inverse, and orders words as signed numbers. So the words of a signed
+/// interval are those that read as numbers between its ends. Narrowing by an interval of the other signedness loses no
+/// common member. The signed numbers of n bits are exactly the sign extensions of n bits.
 pub fn interval_law()
     ensures add { ContainsResults bounds_add word_add }
     ensures sub { ContainsResults bounds_sub word_sub }
@@ -27,21 +31,14 @@ pub fn interval_law()
     ensures at_most { KeepsPairs after_at_most (λ x y. x ≤ y) }
     ensures without { WithoutKeeps }
     ensures included { IncludedKeeps }
-{}
-
-/// Signed intervals are sound. `place` is its own inverse, and orders words as signed numbers. So the words of a signed
-/// interval are those that read as numbers between its ends. Each operation contains every result of the machine's
-/// operation on members. Narrowing by an interval of the other signedness loses no common member. The signed numbers of
-/// n bits are exactly the sign extensions of n bits.
-pub fn signed_law()
     ensures place_orders { PlacesOrder }
     ensures place_twice { PlaceTwice }
-    ensures reads { SignedReads }
-    ensures add { ContainsSigned signed_add word_add }
-    ensures sub { ContainsSigned signed_sub word_sub }
-    ensures sar { SarContains }
-    ensures div { DivContains }
-    ensures rem { RemContains }
+    ensures signed_reads { SignedReads }
+    ensures signed_add { ContainsSigned signed_add word_add }
+    ensures signed_sub { ContainsSigned signed_sub word_sub }
+    ensures signed_sar { SarContains }
+    ensures signed_div { DivContains }
+    ensures signed_rem { RemContains }
     ensures extension { ExtensionContains }
     ensures extension_kept { ExtensionKeeps }
     ensures narrow_signed { SignedNarrowKeeps }

@@ -2,9 +2,8 @@
 //!
 //! Main calls: the operations of `Interval` and `SignedInterval`, and their refinements `greater`,
 //! `at_most`, `without`. It depends on `bpf_tnum` and `bpf_words`. Each operation returns what its
-//! definition in `specs/` says. `laws::interval_law` and `signed_law` say that it contains every
-//! result of the machine's operation, and that a refinement keeps every word that takes its branch.
-//! No call allocates.
+//! definition in `specs/` says. `laws::interval_law` says that it contains every result of the machine's
+//! operation, and that a refinement keeps every word that takes its branch. No call allocates.
 #![tactic(auto)]
 
 pub mod laws;

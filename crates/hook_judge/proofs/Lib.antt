@@ -1,2 +1,2 @@
-mod Judging
+pub mod Judging
 pub mod Newest

@@ -10,7 +10,7 @@ ghost use Rattle.live_scenes.specs.Rights.{IsChiefBoxed, IsHandBoxed};
 use crate::hands::{Chief, Hand};
 use crate::purse::{PARTS, Purse};
 use ap_books::Ledgers;
-use ap_live::{LeftTokens, LiveAp, OperatorToken, WorkerToken, newcomers_law, tokens_law};
+use ap_live::{LeftTokens, LiveAp, OperatorToken, WorkerToken, tokens_law};
 use ap_locked::Journals;
 use std::alloc::{AllocError, Global};
 
@@ -38,7 +38,6 @@ fn hire_workers<B: Ledgers + Journals>(
     ensures parts { OnOk result (left.new.parts + count ≡ left.old.parts) }
     ensures keeps { OnOk result (KeepsLive ap.old ap.new) }
 {
-    newcomers_law();
     tokens_law();
     let mut tokens = Vec::with_capacity(alloc, count)?;
     for hired in 0..count {
@@ -61,7 +60,6 @@ fn hire_operators<B: Ledgers + Journals>(
     ensures parts { OnOk result (left.new.parts + count ≡ left.old.parts) }
     ensures workers { OnOk result (ap.new.stock.workers ≡ ap.old.stock.workers) }
 {
-    newcomers_law();
     tokens_law();
     let mut tokens = Vec::with_capacity(alloc, count)?;
     for _hired in 0..count {

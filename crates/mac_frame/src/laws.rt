@@ -10,9 +10,13 @@ use crate::fault::FrameFault;
 use crate::fields::{address_from, word_from};
 use crate::frame::{MacFrame, parse, write};
 
-/// The spelling of a frame of the grammar has no fault.
-pub fn spelled_without_fault()
-    ensures { (f : Frame) → IsFrame f → first_fault (spelling f) ≡ None }
+/// Frames of the grammar and their spellings. The spelling of a frame has no fault, and no other frame has it. Bytes are
+/// spelled by elements if and only if no element in them is cut; reading what elements spell gives these elements.
+pub fn frames_are_spelled()
+    ensures without_fault { (f : Frame) → IsFrame f → first_fault (spelling f) ≡ None }
+    ensures one_frame { (f g : Frame) → IsFrame f → IsFrame g → spelling f ≡ spelling g → f ≡ g }
+    ensures cut { CutsNone }
+    ensures elements { ReadsElements }
 {}
 
 /// Bytes without a fault are the spelling of a frame of the grammar. The calls in its body find the frame's fields.
@@ -38,18 +42,3 @@ pub fn written_is_read(frame: &MacFrame, out: &mut Vec<u8>) -> Result<MacFrame, 
     write(frame, out)?;
     parse(alloc, &out[start..])
 }
-
-/// No two frames have the same spelling.
-pub fn one_frame()
-    ensures { (f g : Frame) → IsFrame f → IsFrame g → spelling f ≡ spelling g → f ≡ g }
-{}
-
-/// Bytes are spelled by elements if and only if no element in them is cut.
-pub fn cut_where_not_elements()
-    ensures { CutsNone }
-{}
-
-/// Reading what elements spell gives these elements.
-pub fn elements_are_read()
-    ensures { ReadsElements }
-{}

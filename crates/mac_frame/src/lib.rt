@@ -26,10 +26,7 @@ pub use content::{AddbaResponse, BlockAck, Content, Control, DataKind, Managemen
 pub use elements::{Elements, ElementsBuf, SSID, SUPPORTED_RATES};
 pub use fault::{Fault, FrameFault};
 pub use frame::{LONGEST_HEAD, MacFrame, parse, write};
-pub use laws::{
-    cut_where_not_elements, elements_are_read, faultless_is_spelled, one_frame,
-    spelled_without_fault, written_is_read,
-};
+pub use laws::{faultless_is_spelled, frames_are_spelled, written_is_read};
 pub use mac_types::{
     AckPolicy, Address, AidField, BlockAckParameters, BlockAckPolicy, BufferSize, Capability,
     DelbaParameters, FrameFlags, QosControl, Reason, SequenceNumber, Status, Tid,

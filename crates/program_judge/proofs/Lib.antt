@@ -1,1 +1,1 @@
-mod Judging
+pub mod Judging

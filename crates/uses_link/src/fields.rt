@@ -249,11 +249,6 @@ fn fields_have_their_meaning(rt: HostRuntime) {
 }
 
 #[test]
-fn laws_are_called() {
-    flags_are_spelled();
-    sequence_controls_are_spelled();
-    qos_controls_are_spelled();
-    block_ack_parameters_are_spelled();
-    delba_parameters_are_spelled();
-    block_ack_controls_are_spelled();
+fn law_is_called() {
+    fields_are_spelled();
 }

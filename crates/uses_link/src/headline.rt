@@ -6,7 +6,7 @@ ghost use Rattle.ap_core.specs.AccessPoints.{rules_of, outs_in};
 ghost use Rattle.uses_link.specs.Headline.{HoldsFromNobody, HoldsOn, HoldsAtOne, HoldsTwice};
 
 use ap_core::{Event, Judge, LinkConfig, Out, Shard, handle_all, known_shards, new_shards};
-use ap_laws::{appending_law, link_law};
+use ap_laws::link_law;
 use std::alloc::{AllocError, Global};
 
 /// Handles a list of events at a new access point. If it succeeds, then for all events and verdicts: turns give the
@@ -46,7 +46,6 @@ pub fn go_on<J: Judge>(
     ensures place { InPlace (rules_of shards.new) }
 {
     link_law::<J>();
-    appending_law::<J>();
     known_shards(shards);
     let results = handle_all(alloc, shards, events, judge)?;
     Ok(results)

@@ -3,7 +3,7 @@ ghost use Rattle.std.specs.Prelude.{◌<◌, ◌≤◌};
 
 use crate::same::same;
 use arrayvec::ArrayVec;
-use blockack::{Agreement, Placed, order_law, window_law};
+use blockack::{Agreement, Placed, window_law};
 use std::process::Abort;
 
 type Frames = ArrayVec<(u16, u8), 64>;
@@ -316,7 +316,6 @@ fn windows_hand_up_in_order(rt: HostRuntime) {
 }
 
 #[test]
-fn laws_are_stated(_rt: HostRuntime) {
-    order_law::<u8>();
+fn law_is_stated(_rt: HostRuntime) {
     window_law::<u8>();
 }

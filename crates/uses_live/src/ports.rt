@@ -8,7 +8,7 @@ ghost use Rattle.bpf_helpers.specs.Hooked.{HaveTables, IsFitting, KeepTables, sh
 use crate::interrupted::Interrupted;
 use crate::same::same;
 use bpf_decode::decode;
-use bpf_helpers::{HookPort, MapTables, WorkerState, WorkerView, run_hook, tables_law};
+use bpf_helpers::{HookPort, MapTables, WorkerState, WorkerView, run_hook};
 use bpf_machine::{Accepted, run};
 use bpf_regions::{Context, Frame, Hook, MapOp, Scope, Shape, Shapes, WordWidth};
 use bpf_text::assemble;
@@ -111,7 +111,6 @@ fn two_workers(rt: &impl Abort, alloc: Global, shape: Shape, draws: (u64, u64)) 
     requires valid { IsShape shape }
     ensures shapes { shapes_of result.maps ≡ shape ∷ [] }
 {
-    tables_law();
     let mut maps = one_map(rt, alloc, shape);
     let one = seated(rt, alloc, &mut maps, 0, draws.0);
     let other = seated(rt, alloc, &mut maps, 1, draws.1);

@@ -13,7 +13,7 @@ use crate::policies::Policies;
 use ap_core::{Event, LinkConfig, ListJudge, Out, Shard, handle_all, new_shards, shard_of};
 use ap_laws::link_law;
 use bpf_helpers::WorkerView;
-use hook_judge::{CountedState, SetJudge, judging_law};
+use hook_judge::{CountedState, SetJudge};
 use std::alloc::{AllocError, Global};
 
 /// What a worker's programs read of the shard that an event concerns.
@@ -46,7 +46,6 @@ fn decide_at(
     ensures place { InPlace (rules_of shards.new) }
     ensures seats { IsFitting policies.entry.maps.now policies.entry.worker state.new.seats }
 {
-    judging_law();
     let view = view_at(shards, &event[0], policies);
     let mut judge = SetJudge::new(policies.set, view, state);
     let results = handle_all(alloc, shards, event, &mut judge)?;

@@ -10,7 +10,7 @@ use crate::policies::Policies;
 use ap_core::{Event, Out, Shard};
 use ap_laws::link_law;
 use bpf_helpers::WorkerView;
-use hook_judge::{CountedState, SetJudge, judging_law};
+use hook_judge::{CountedState, SetJudge};
 use std::alloc::{AllocError, Global};
 
 /// What a worker's programs read of this shard.
@@ -47,7 +47,6 @@ pub fn decide(
     ensures refused { IfErr result (λ _. (shard.new ≡ shard.old) × (state.new ≡ state.old)) }
 {
     link_law::<SetJudge<'_, '_, '_>>();
-    judging_law();
     shard.known();
     let mut judge = SetJudge::new(policies.set, view_of(shard, policies), state);
     let outs = shard.handle(alloc, event, &mut judge)?;

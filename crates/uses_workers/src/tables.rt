@@ -7,7 +7,7 @@ ghost use Rattle.ap_tables.specs.Stocks.{AreOperators, Names};
 
 use crate::same::{holds, same};
 use ap_tables::{ApTables, OperatorSeats};
-use bpf_helpers::{HookPort, WorkerState, WorkerView, tables_law};
+use bpf_helpers::{HookPort, WorkerState, WorkerView};
 use bpf_regions::{MapOp, Scope, Shape, Shapes, WordWidth};
 use bpf_tagged::Port;
 use std::alloc::Global;
@@ -91,7 +91,6 @@ fn worker(rt: &impl Abort, alloc: Global, tables: &mut ApTables, number: usize) 
 
 #[test]
 fn a_sum_is_taken_in_the_width_of_the_words(rt: HostRuntime) {
-    tables_law();
     let mut tables = two_maps(&rt, rt.alloc());
     let mut one = worker(&rt, rt.alloc(), &mut tables, 0);
     let mut other = worker(&rt, rt.alloc(), &mut tables, 1);

@@ -5,7 +5,7 @@ ghost use Rattle.bpf_helpers.specs.Hooked.{HaveTables, IsFitting, shapes_of};
 
 use crate::same::holds;
 use bpf_decode::decode;
-use bpf_helpers::{MapTables, WorkerState, tables_law};
+use bpf_helpers::{MapTables, WorkerState};
 use bpf_machine::Accepted;
 use bpf_regions::{Hook, Scope, Shape, Shapes, WordWidth};
 use bpf_text::assemble;
@@ -47,7 +47,6 @@ fn seats_at(rt: &impl Abort, alloc: Global, maps: &mut [MapTables]) -> (CountedS
     ensures one { IsFitting maps.new 0 result.0.seats }
     ensures other { IsFitting maps.new 0 result.1.seats }
 {
-    tables_law();
     let one = WorkerState::seated(alloc, maps, 0, 0).expect(rt, "seats");
     let one = CountedState::new(alloc, one).expect(rt, "counts");
     let other = WorkerState::seated(alloc, maps, 0, 0).expect(rt, "seats");

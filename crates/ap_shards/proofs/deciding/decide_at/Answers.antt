@@ -12,6 +12,7 @@ use Rattle.ap_shards.specs.Desks.{ByDesk}
 use Rattle.ap_shards.specs.Fates.{Adds}
 use Rattle.ap_shards.proofs.Adding.{adds}
 use Rattle.ap_shards.proofs.Judging.{by_desk}
+use Rattle.hook_judge.proofs.Judging.{judged}
 use Rattle.ap_shards.proofs.deciding.decide_at.Goals as goal
 
 pub returns-in-Ok-clause-fate : goal.returns-in-Ok-clause-fate
@@ -21,11 +22,11 @@ returns-in-Ok-clause-fate g c =
     let j = c.new-judge.result in
     let k = c.decide.new.judge in
     let r = readings_of c.args.locked.now in
-    let name = (c.judging_law.ensures.judged j k d.asked d.listed).0.state ∙ c.new-judge.ensures.same_state in
+    let name = (judged j k d.asked d.listed).0.state ∙ c.new-judge.ensures.same_state in
     let view = ap given_by c.new-judge.ensures.view ∙ (λ i. record { maps = c.args.desk.maps.now; worker = c.args.desk.worker; clock = c.clock.ensures i; stations = c.stations.result }) in
     let added : Adds (ByDesk c.args.desk c.args.state.now k.state.now) rs c.args.mine.now c.args.event.now c.in-Ok.outs.items c.in-Ok.dropped c.decide.new.mine =
-    adds (ByDesk c.args.desk c.args.state.now k.state.now) rs {k2 = c.decide.new.self} {t2 = c.decide.new.mine} {j2 = k} c.known.ensures d
-    (λ asked listed. by_desk c.args.desk c.args.state.now k.state.now r c.stations.result j asked c.stations.ensures.are view c.new-judge.ensures.set c.new-judge.ensures.state (c.judging_law.ensures.judged j k asked listed).1) in
+    adds (ByDesk c.args.desk c.args.state.now k.state.now) rs {k2 = c.decide.new.self} {t2 = c.decide.new.mine} {j2 = k} c.in-Ok.ensures.holds d
+    (λ asked listed. by_desk c.args.desk c.args.state.now k.state.now r c.stations.result j asked c.stations.ensures.are view c.new-judge.ensures.set c.new-judge.ensures.state (judged j k asked listed).1) in
     subst (λ (h : Counted). Adds (ByDesk c.args.desk c.args.state.now h) rs c.args.mine.now c.args.event.now c.in-Ok.outs.items c.in-Ok.dropped c.decide.new.mine) (search rules) added
 
 pub returns-in-Ok-clause-fitting : goal.returns-in-Ok-clause-fitting
@@ -33,7 +34,7 @@ returns-in-Ok-clause-fitting g c =
     let d = c.in-Ok.ensures.entry in
     let j = c.new-judge.result in
     let k = c.decide.new.judge in
-    let keeps = (c.judging_law.ensures.judged j k d.asked d.listed).0 in
+    let keeps = (judged j k d.asked d.listed).0 in
     let name = keeps.state ∙ c.new-judge.ensures.same_state in
     let fits : IsFitting c.args.desk.maps.now c.args.desk.worker k.state.now.seats =
     subst (λ (v : WorkerView). IsFitting v.maps.now v.worker k.state.now.seats) (keeps.view ∙ c.new-judge.ensures.view) k.fitting in

@@ -12,6 +12,7 @@ use Rattle.apd_eval.specs.Taken.{TakesAll, IsHandedOn}
 use Rattle.apd_eval.proofs.Asking.{rows_asked, at_number}
 use Rattle.apd_eval.proofs.Following.{Goes, Makes, Makes-more, Makes-end}
 use Rattle.apd_eval.proofs.Taking.{of_packet}
+use Rattle.ap_laws.proofs.AskLaws.{steps_ask_once}
 use Rattle.apd_eval.proofs.follow.follow.Goals as goal
 
 pub loop-walk-init : goal.loop-walk-init
@@ -85,7 +86,7 @@ returns g c =
           fresh = c.in_ok-shards.ensures.fresh;
           shards' = l.shards;
           follows = follows;
-          asked = rows_asked c.asks_law.ensures.once p c.requires.alone all (start_of all) 1 0 [] all _ _ _ _ _ refl (omega arith) follows;
+          asked = rows_asked steps_ask_once p c.requires.alone all (start_of all) 1 0 [] all _ _ _ _ _ refl (omega arith) follows;
         };
         taken = goes.2;
       };

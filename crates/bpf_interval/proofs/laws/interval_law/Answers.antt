@@ -1,23 +1,35 @@
-use Rattle.bpf_interval.proofs.Sound.{add_contains, sub_contains, and_contains, or_contains, mul_contains, div_contains, rem_contains, shl_contains, shr_contains, cut_contains, width_contains}
-use Rattle.bpf_interval.proofs.Sound.{meet_contains, greater_keeps, at_most_keeps, without_keeps, included_contains}
+use Rattle.bpf_interval.proofs.Sound as unsigned
+use Rattle.bpf_interval.proofs.SoundSigned as signed
 use Rattle.bpf_interval.proofs.laws.interval_law.Goals as goal
 
 pub returns : goal.returns
 returns c = record {
-  add = add_contains;
-  sub = sub_contains;
-  and = and_contains;
-  or = or_contains;
-  mul = mul_contains;
-  div = div_contains;
-  rem = rem_contains;
-  shl = shl_contains;
-  shr = shr_contains;
-  cut = cut_contains;
-  width = width_contains;
-  meet = meet_contains;
-  greater = greater_keeps;
-  at_most = at_most_keeps;
-  without = without_keeps;
-  included = included_contains;
+  add = unsigned.add_contains;
+  sub = unsigned.sub_contains;
+  and = unsigned.and_contains;
+  or = unsigned.or_contains;
+  mul = unsigned.mul_contains;
+  div = unsigned.div_contains;
+  rem = unsigned.rem_contains;
+  shl = unsigned.shl_contains;
+  shr = unsigned.shr_contains;
+  cut = unsigned.cut_contains;
+  width = unsigned.width_contains;
+  meet = unsigned.meet_contains;
+  greater = unsigned.greater_keeps;
+  at_most = unsigned.at_most_keeps;
+  without = unsigned.without_keeps;
+  included = unsigned.included_contains;
+  place_orders = signed.places_order;
+  place_twice = signed.place_twice;
+  signed_reads = signed.signed_reads;
+  signed_add = signed.add_contains;
+  signed_sub = signed.sub_contains;
+  signed_sar = signed.sar_contains;
+  signed_div = signed.div_contains;
+  signed_rem = signed.rem_contains;
+  extension = signed.extension_contains;
+  extension_kept = signed.extension_keeps;
+  narrow_signed = signed.signed_narrow_keeps;
+  narrow_unsigned = signed.unsigned_narrow_keeps;
 }

@@ -22,7 +22,7 @@ loop-hired-preserved g c =
       own = all_and_one (IsChiefBoxed a) (IsChiefBoxed b) old new token
           (λ w h. record { own = c.tokens_law.ensures.operators a b w.value c.operator.ensures.keeps h.own; part = h.part })
           c.loop-hired.invariant.own
-          (record { own = if_ok (IsOperator b) c.operator.result token.value made c.operator.ensures.own; part = c.newcomers_law.ensures.parts stock token.value.shards (if_ok (λ (t : Operator). IsNewcomer stock t.shards) c.operator.result token.value made c.operator.ensures.new) })
+          (record { own = if_ok (IsOperator b) c.operator.result token.value made c.operator.ensures.own; part = c.tokens_law.ensures.parts stock token.value.shards (if_ok (λ (t : Operator). IsNewcomer stock t.shards) c.operator.result token.value made c.operator.ensures.new) })
           c.push_reserved.ensures.items;
       many = omega (arith, c.push_reserved.ensures.len, c.loop-hired.invariant.many);
       room = omega (arith, c.push_reserved.ensures.capacity, c.loop-hired.invariant.room);

@@ -24,7 +24,7 @@ loop-hired-preserved g c =
       own = all_and_one (IsHandBoxed a) (IsHandBoxed b) old new token
           (λ w h. record { own = c.tokens_law.ensures.workers a b w.value c.worker.ensures.keeps h.own; part = h.part })
           c.loop-hired.invariant.own
-          (record { own = if_ok (IsWorker b) c.worker.result token.value made c.worker.ensures.own; part = c.newcomers_law.ensures.parts stock token.value.shards (if_ok (λ (t : Worker). IsNewcomer stock t.shards) c.worker.result token.value made c.worker.ensures.new) })
+          (record { own = if_ok (IsWorker b) c.worker.result token.value made c.worker.ensures.own; part = c.tokens_law.ensures.parts stock token.value.shards (if_ok (λ (t : Worker). IsNewcomer stock t.shards) c.worker.result token.value made c.worker.ensures.new) })
           c.push_reserved.ensures.items;
       many = omega (arith, c.push_reserved.ensures.len, c.loop-hired.invariant.many);
       room = omega (arith, c.push_reserved.ensures.capacity, c.loop-hired.invariant.room);

@@ -7,4 +7,4 @@ returns-clause-headline g c =
     let old = c.args.shards.now in
     from_before g.J.Judge.gives c.link_law.ensures.access_point old c.handle_all.new.shards c.args.events.now c.args.judge.now c.handle_all.new.judge
     (outs_in c.in_ok-results.results.items) c.requires.place
-    (c.appending_law.ensures.histories (rules_of old) (readings_of old) c.known_shards.ensures) c.in_ok-results.ensures.run
+    (c.link_law.ensures.histories (rules_of old) (readings_of old) c.known_shards.ensures) c.in_ok-results.ensures.run

@@ -7,6 +7,7 @@ use Rattle.hook_judge.specs.Judges as judges
 use Rattle.uses_policies.specs.Policed.{loads_of, IsGiven}
 use Rattle.uses_policies.specs.Headline.{EventHolds}
 use Rattle.uses_policies.proofs.Conclusions.{at_one, fits_after}
+use Rattle.hook_judge.proofs.Judging.{judged}
 use Rattle.uses_policies.proofs.one.decide.Goals as goal
 
 pub returns-clause-headline : goal.returns-clause-headline
@@ -22,7 +23,7 @@ returns-clause-headline c =
       stations = c.view_of.ensures.stations;
     }) in
     let made : (h' : Counted) → (_ ≡ k.state.ghost_name → h' ≡ k.state.now) → ∥ EventHolds p c.args.shard.now c.args.event.now c.args.state.now c.in_ok-outs.outs.items c.handle.new.self h' ∥₁ =
-    λ h' written. at_one c.link_law.ensures.shard c.judging_law.ensures.judged p c.args.shard.now c.handle.new.self c.args.event.now j k c.in_ok-outs.outs.items c.args.state.now h'
+    λ h' written. at_one c.link_law.ensures.shard judged p c.args.shard.now c.handle.new.self c.args.event.now j k c.in_ok-outs.outs.items c.args.state.now h'
     c.known.ensures.history c.in_ok-outs.ensures.step same given c.new-judge.ensures.state (λ name. written (sym c.new-judge.ensures.same_state ∙ name)) in
     search (rules, made)
 
@@ -32,7 +33,7 @@ returns-clause-seats c =
     let k = c.handle.new.judge in
     let p = c.args.policies in
     let step = c.in_ok-outs.ensures.step in
-    let keeps = (c.judging_law.ensures.judged j k step.asked step.listed).0 in
+    let keeps = (judged j k step.asked step.listed).0 in
     let made : (h' : Counted) → (_ ≡ k.state.ghost_name → h' ≡ k.state.now) → IsFitting p.maps.now p.worker h'.seats =
     λ h' written. fits_after p j k (rw c.new-judge.ensures.view c.view_of.ensures.maps) (rw c.new-judge.ensures.view c.view_of.ensures.worker) keeps h' (λ name. written (sym c.new-judge.ensures.same_state ∙ name)) in
     search (rules, made)

@@ -2,6 +2,7 @@ use Rattle.std.proofs.Common.{◌≡◌, ◌++◌, ◌∷◌, [], List, ap, refl
 use Rattle.ap_live.specs.declared.tagged.Tagged.{Tagged}
 use Rattle.ap_live.proofs.Going.{served_more, served_none, served_still}
 use Rattle.ap_live.proofs.Handing.{served_holds}
+use Rattle.ap_laws.proofs.HeadlineLaws.{each_run_holds}
 use Rattle.ap_live.proofs.live.LiveAp.serve.Goals as goal
 
 pub loop-init : goal.loop-init
@@ -20,19 +21,19 @@ pub returns-then-is_err-clause-headline : goal.returns-then-is_err-clause-headli
 returns-then-is_err-clause-headline g c =
     let w = c.args.worker.now in
     let l = c.args.list.now.items in
-    served_holds c.run_law.ensures g.B.Journals.config c.args.self.now w c.loop.worker l c.reserve.new.self.items
+    served_holds each_run_holds g.B.Journals.config c.args.self.now w c.loop.worker l c.reserve.new.self.items
     (served_still g.B.Journals.config c.args.self.now w c.loop.worker c.loop.worker l c.loop.list.items c.reserve.new.self.items c.loop.invariant.4 refl c.reserve.ensures.items)
 
 pub returns-in_default-clause-headline : goal.returns-in_default-clause-headline
 returns-in_default-clause-headline g c =
     let w = c.args.worker.now in
     let l = c.args.list.now.items in
-    served_holds c.run_law.ensures g.B.Journals.config c.args.self.now w c.serve_one.new.worker l c.reserve.new.self.items
+    served_holds each_run_holds g.B.Journals.config c.args.self.now w c.serve_one.new.worker l c.reserve.new.self.items
     (served_still g.B.Journals.config c.args.self.now w c.loop.worker c.serve_one.new.worker l c.loop.list.items c.reserve.new.self.items c.loop.invariant.4 c.in_default.ensures.none c.reserve.ensures.items)
 
 pub returns-then-stopped-clause-headline : goal.returns-then-stopped-clause-headline
 returns-then-stopped-clause-headline g c =
-    served_holds c.run_law.ensures g.B.Journals.config c.args.self.now c.args.worker.now c.serve_one.new.worker c.args.list.now.items c.push_reserved.new.self.items (returns-then-stopped-clause-served g c)
+    served_holds each_run_holds g.B.Journals.config c.args.self.now c.args.worker.now c.serve_one.new.worker c.args.list.now.items c.push_reserved.new.self.items (returns-then-stopped-clause-served g c)
 
 pub loop-preserved : goal.loop-preserved
 loop-preserved g c =

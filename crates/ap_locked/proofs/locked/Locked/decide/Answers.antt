@@ -9,6 +9,7 @@ use Rattle.ap_locked.specs.Pages.{Page, Signed, entries_of, first_page, on_page}
 use Rattle.ap_locked.specs.Tokens.{Token, IsToken}
 use Rattle.ap_locked.proofs.Signing.{entries_more, entries_prefix, one_first}
 use Rattle.ap_locked.proofs.Entering.{kept_with, token_with, holds_with, is_token_with, journal_handled, asked_since}
+use Rattle.ap_laws.proofs.AskLaws.{lists_asks}
 use Rattle.ap_locked.proofs.locked.Locked.decide.Goals as goal
 
 pub invariant_of-self-2 : goal.invariant_of-self-2
@@ -16,7 +17,7 @@ invariant_of-self-2 g c =
     let rs : Rules = rules g.row.SHARD g.B.Journals.config in
     let d = c.in_ok-outcome.ensures.step in
     let e : Entry = entry_of c.args.event.now d.asked c.in_ok-outcome.outcome.outs.items in
-    let asked = asked_since g.J.Judge.asks g.J.Judge.gives c.asks_law.ensures.listed c.of-before.result.value c.args.judge.now c.handle_with_drop.new.judge d.asked c.of-before.ensures d.listed in
+    let asked = asked_since g.J.Judge.asks g.J.Judge.gives (lists_asks g.J.Judge.asks g.J.Judge.gives g.met.J.Judge.lists) c.of-before.result.value c.args.judge.now c.handle_with_drop.new.judge d.asked c.of-before.ensures d.listed in
     let m : ℕ = (first_page c.mine.inside.pages.pages).mark in
     let journal = c.self.inside.journal.entries in
     let grown : c.add.new.known ≡ with_entry c.self.inside.journal (record { mark = m; entry = e }) =
@@ -38,7 +39,7 @@ invariant_of-mine g c =
     let rs : Rules = rules g.row.SHARD g.B.Journals.config in
     let d = c.in_ok-outcome.ensures.step in
     let e : Entry = entry_of c.args.event.now d.asked c.in_ok-outcome.outcome.outs.items in
-    let asked = asked_since g.J.Judge.asks g.J.Judge.gives c.asks_law.ensures.listed c.of-before.result.value c.args.judge.now c.handle_with_drop.new.judge d.asked c.of-before.ensures d.listed in
+    let asked = asked_since g.J.Judge.asks g.J.Judge.gives (lists_asks g.J.Judge.asks g.J.Judge.gives g.met.J.Judge.lists) c.of-before.result.value c.args.judge.now c.handle_with_drop.new.judge d.asked c.of-before.ensures d.listed in
     let page : Page = first_page c.mine.inside.pages.pages in
     let journal = c.self.inside.journal.entries in
     let signed : Signed = record { mark = page.mark; entry = e } in
@@ -64,7 +65,7 @@ invariant_of-mine g c =
 pub returns-clause-entry : goal.returns-clause-entry
 returns-clause-entry g c =
     let d = c.in_ok-outcome.ensures.step in
-    let asked = asked_since g.J.Judge.asks g.J.Judge.gives c.asks_law.ensures.listed c.of-before.result.value c.args.judge.now c.handle_with_drop.new.judge d.asked c.of-before.ensures d.listed in
+    let asked = asked_since g.J.Judge.asks g.J.Judge.gives (lists_asks g.J.Judge.asks g.J.Judge.gives g.met.J.Judge.lists) c.of-before.result.value c.args.judge.now c.handle_with_drop.new.judge d.asked c.of-before.ensures d.listed in
     let page : Page = first_page c.mine.inside.pages.pages in
     let journal = c.self.inside.journal.entries in
     let e : Entry = entry_of c.args.event.now d.asked c.in_ok-outcome.outcome.outs.items in

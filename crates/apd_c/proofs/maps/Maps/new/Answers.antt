@@ -1,4 +1,5 @@
 use Rattle.std.proofs.Common.{sym, ◌∙◌}
+use Rattle.bpf_helpers.proofs.Keeping.{fitting_kept, shapes_kept}
 use Rattle.apd_c.proofs.maps.Maps.new.Goals as goal
 
 pub invariant_of-result : goal.invariant_of-result
@@ -6,7 +7,7 @@ invariant_of-result c =
     let first = c.in_ok-hand.ensures.tables in
     let second = c.in_ok-state.ensures.tables in
     record {
-      for_maps = sym (c.tables_law.ensures.shapes _ _ second ∙ c.tables_law.ensures.shapes _ _ first ∙ c.in_ok-tables.ensures.shapes);
+      for_maps = sym (shapes_kept _ _ second ∙ shapes_kept _ _ first ∙ c.in_ok-tables.ensures.shapes);
       fitting = c.in_ok-state.ensures.fitting;
-      own = c.tables_law.ensures.fitting _ _ _ _ second c.in_ok-hand.ensures.fitting;
+      own = fitting_kept _ _ second _ _ c.in_ok-hand.ensures.fitting;
     }

@@ -23,7 +23,7 @@ loop-number-preserved g c =
       all = c.worker.ensures.keeps.workers ∙ c.loop-number.invariant.all;
       own = all_and_one (IsWorker a) (IsWorker b) old new token (λ w. c.tokens_law.ensures.workers a b w c.worker.ensures.keeps) c.loop-number.invariant.own c.in-Ok.ensures.own c.in_ok-push.ensures.items;
       new_workers = all_and_one IsNewWorker IsNewWorker old new token (λ w h. h) c.loop-number.invariant.new_workers
-          (record { parts = c.newcomers_law.ensures.parts stock token.shards c.in-Ok.ensures.new; nothing = c.newcomers_law.ensures.nothing stock token.shards c.in-Ok.ensures.new; untaken = c.in-Ok.ensures.untaken; unowned = new_unowned stock token.shards c.in-Ok.ensures.new; unwritten = new_unwritten stock token.shards c.in-Ok.ensures.new })
+          (record { parts = c.tokens_law.ensures.parts stock token.shards c.in-Ok.ensures.new; nothing = c.tokens_law.ensures.nothing stock token.shards c.in-Ok.ensures.new; untaken = c.in-Ok.ensures.untaken; unowned = new_unowned stock token.shards c.in-Ok.ensures.new; unwritten = new_unwritten stock token.shards c.in-Ok.ensures.new })
           c.in_ok-push.ensures.items;
       numbered = numbered_more old new token c.in_ok-push.ensures.items (c.in-Ok.ensures.number ∙ (sym c.loop-number.invariant.many ∙ c.loop-number.tokens.ok.0)) c.loop-number.invariant.numbered;
       many = omega (arith, c.in_ok-push.ensures.len, c.loop-number.invariant.many);

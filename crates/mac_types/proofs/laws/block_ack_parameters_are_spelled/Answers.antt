@@ -1,5 +1,0 @@
-use Rattle.mac_types.proofs.Reading.{block_ack_parameter_sets}
-use Rattle.mac_types.proofs.laws.block_ack_parameters_are_spelled.Goals as goal
-
-pub returns : goal.returns
-returns c = block_ack_parameter_sets
