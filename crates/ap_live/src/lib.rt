@@ -14,22 +14,22 @@
 //! each verdict is that of an accepted program, within its budget, or of a hook without a program;
 //! the outputs are the link's under these verdicts, entries of one history of the shard from the
 //! opening; only data of associated stations is passed up; each agreement's accepted numbers are
-//! passed up once each, in increasing order. A token's own entries are in that history (`known`);
+//! passed up once each, in increasing order. A token's own entries are in that history;
 //! two tokens that meet share one.
 #![tactic(auto)]
 
-mod acting;
+mod actions;
 mod gate;
 mod laws;
-mod listing;
+mod listings;
 mod live;
 mod maps;
+mod meetings;
 mod opening;
-mod serving;
-mod submitting;
+mod service;
+mod submission;
 mod tagged;
 mod tokens;
-mod upholding;
 
 pub use ap_core::{AgreementInForce, Known, KnownStation};
 pub use ap_queues::Item;

@@ -82,15 +82,6 @@ impl<B: Ledgers + Journals> OperatorToken<B> {
         let OperatorToken { shards, .. } = self;
         shards.into_parts()
     }
-
-    /// The parts of the ledgers alone.
-    pub fn into_shares(self) -> Portions<B>
-        ensures { result ≡ holding_of self.shards }
-    {
-        let (shares, pages) = self.into_parts();
-        drop(pages);
-        shares
-    }
 }
 
 impl<B: Ledgers + Journals> WorkerToken<B> {
@@ -132,15 +123,6 @@ impl<B: Ledgers + Journals> WorkerToken<B> {
         let WorkerToken { shards, .. } = self;
         shards.into_parts()
     }
-
-    /// The parts of the ledgers alone.
-    pub fn into_shares(self) -> Portions<B>
-        ensures { result ≡ holding_of self.shards }
-    {
-        let (shares, pages) = self.into_parts();
-        drop(pages);
-        shares
-    }
 }
 
 impl<B: Ledgers + Journals> LeftTokens<B> {
@@ -168,26 +150,5 @@ impl<B: Ledgers + Journals> LeftTokens<B> {
         let (shares, mut all) = Box::into_inner(shards).into_parts();
         all.merge(Box::into_inner(pages));
         (shares, all, passes)
-    }
-
-    /// The parts of the ledgers that were not given, and as many pages, of which one may have entries.
-    pub fn into_parts(self) -> (Portions<B>, AllPages<B>)
-        ensures is { result.0 ≡ holding_of self.shards }
-        ensures parts { HasParts self.parts result.0 }
-        ensures pages { result.1 ≡ both_pages (pages_of self.shards) self.pages }
-        ensures count { HasPages self.parts result.1 }
-    {
-        let (shares, pages, _passes) = self.into_all();
-        (shares, pages)
-    }
-
-    /// The parts of the ledgers alone.
-    pub fn into_shares(self) -> Portions<B>
-        ensures is { result ≡ holding_of self.shards }
-        ensures parts { HasParts self.parts result }
-    {
-        let (shares, pages) = self.into_parts();
-        drop(pages);
-        shares
     }
 }

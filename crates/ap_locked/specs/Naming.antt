@@ -2,7 +2,7 @@
 use Rattle.std.specs.Prelude.{◌≡◌, ◌==◌, ℕ, if◌then◌else◌}
 use Rattle.logbook.specs.Pages.{Book}
 use Rattle.ap_books.specs.Naming.{AreInParts, AreNamed, name_at}
-use Rattle.ap_locked.specs.declared.naming.NewShard.{NewShard}
+use Rattle.ap_locked.specs.declared.names.NewShard.{NewShard}
 use Rattle.ap_locked.specs.declared.pages.NewLedgers.{NewLedgers}
 
 -- they are for this many pages

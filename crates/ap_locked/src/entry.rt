@@ -1,6 +1,6 @@
 //! The entries of a shard's journal.
 
-use crate::naming::Journals;
+use crate::names::Journals;
 use crate::pages::Pages;
 use ap_books::Ledgers;
 use ap_journal::{Describes, Entry, Past};

@@ -9,15 +9,15 @@
 //! the journal, each entry at its own place (`Locked::reconcile`).
 #![tactic(auto)]
 
-mod deciding;
+mod decisions;
 mod entry;
 mod locked;
-mod naming;
+mod names;
 mod pages;
 mod token;
 
 pub use entry::{JournalEntry, SignedEntry};
 pub use locked::Locked;
-pub use naming::{Journals, NewShard};
+pub use names::{Journals, NewShard};
 pub use pages::{JournalPage, NewLedgers, Pages};
 pub use token::ShardToken;

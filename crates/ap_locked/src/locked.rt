@@ -12,7 +12,7 @@ ghost use Rattle.ap_locked.specs.Pages.{new_page, new_pages};
 ghost use Rattle.ap_locked.specs.Tokens.{AreTheJournal, CountJournal, KeepsOwn, newcomer};
 
 use crate::entry::SignedEntry;
-use crate::naming::{Journals, NewShard};
+use crate::names::{Journals, NewShard};
 use crate::pages::{PageBooks, Pages};
 use crate::token::ShardToken;
 use ap_books::{Ledgers, ShardBooks, Shares, Totals};
@@ -180,7 +180,6 @@ impl<B: Ledgers + Journals, const SHARD: usize> Locked<B, SHARD> {
         if !self.author.prepare(&self.journal) {
             return Err(AllocError);
         }
-        pages.known();
         pages.look(&mut self.author, &self.journal);
         pages.audit(&mut self.page_books);
         self.books.read(all);

@@ -8,7 +8,7 @@ ghost use Rattle.ap_locked.specs.Accounts.{AreMade, ArePowers, Gains, mark_of, s
 ghost use Rattle.ap_locked.specs.Pages.{first_page, new_page, new_pages, on_page};
 
 use crate::entry::{JournalEntry, SignedEntry};
-use crate::naming::Journals;
+use crate::names::Journals;
 use ap_books::{CountLedger, Ledgers};
 use ap_journal::{Author, Describes, Known, Lists, Past};
 use std::marker::Model;
@@ -148,14 +148,6 @@ impl<B: Ledgers + Journals, const SHARD: usize> Pages<B, SHARD> {
         (PageBooks { made, marks }, pages)
     }
 
-    /// Proves what is on the pages; does nothing at run time.
-    pub fn known(&self)
-        ensures made { AreMade self.now.seen self.now.pages }
-        ensures powers { ArePowers self.now.pages }
-    {
-        let _seen = &self.seen;
-    }
-
     /// Splits off the first of this many new pages.
     pub fn split_page(&mut self, count: u64) -> Pages<B, SHARD>
         requires new { self.old.pages ≡ new_pages count }
@@ -211,13 +203,15 @@ impl<B: Ledgers + Journals, const SHARD: usize> Pages<B, SHARD> {
         other.seen = seen;
     }
 
-    /// Proves that what was seen is a prefix of the journal that its author has prepared to extend;
-    /// changes nothing.
+    /// Proves that what was seen is a prefix of the journal that its author has prepared to extend, and what is on the
+    /// pages; changes nothing.
     pub(crate) fn look(&self, author: &mut Author<SignedEntry>, journal: &Known<SignedEntry>)
         requires prepared { IsPrepared author.old journal.now }
         requires named { journal.now.journal ≡ B.journal_of SHARD }
         ensures same { author.new ≡ author.old }
         ensures seen { IsPrefix self.now.seen journal.now.entries }
+        ensures made { AreMade self.now.seen self.now.pages }
+        ensures powers { ArePowers self.now.pages }
     {
         author.look(journal, &self.seen);
     }

@@ -7,7 +7,7 @@ ghost use Rattle.ap_locked.specs.Pages.{first_page};
 ghost use Rattle.ap_locked.specs.Tokens.{IsToken, KeepsOwn, newcomer};
 
 use crate::entry::JournalEntry;
-use crate::naming::Journals;
+use crate::names::Journals;
 use crate::pages::Pages;
 use ap_books::{Ledgers, Shares};
 use ap_journal::Past;
@@ -38,13 +38,6 @@ impl<B: Ledgers + Journals, const SHARD: usize> Model for ShardToken<B, SHARD> {
 }
 
 impl<B: Ledgers + Journals, const SHARD: usize> ShardToken<B, SHARD> {
-    /// Proves what holds of each token; does nothing at run time.
-    pub fn known(&self)
-        ensures { IsToken (rules SHARD B.config) self.now }
-    {
-        let _shares = &self.shares;
-    }
-
     /// Splits off a token with this many parts, which writes on this empty page. It has seen what this
     /// one has, and has no entries of its own.
     pub fn split_off(&mut self, parts: u64, page: Pages<B, SHARD>) -> ShardToken<B, SHARD>
@@ -73,6 +66,8 @@ impl<B: Ledgers + Journals, const SHARD: usize> ShardToken<B, SHARD> {
         ensures this { KeepsOwn self.old self.new }
         ensures that { KeepsOwn other.old other.new }
         ensures seen { self.new.seen ≡ other.new.seen }
+        ensures token { IsToken (rules SHARD B.config) self.new }
+        ensures other_token { IsToken (rules SHARD B.config) other.new }
     {
         self.pages.meet(&mut other.pages);
     }

@@ -5,7 +5,7 @@ use Rattle.ap_books.specs.Naming.{AreInParts}
 use Rattle.ap_locked.specs.Accounts.{Account}
 use Rattle.ap_locked.specs.Naming.{AreForPages, IsNamed, ledger_names}
 use Rattle.ap_locked.specs.Pages.{new_page, new_pages}
-use Rattle.ap_locked.specs.declared.naming.NewShard.{NewShard}
+use Rattle.ap_locked.specs.declared.names.NewShard.{NewShard}
 use Rattle.ap_locked.specs.Tokens.{Token, newcomer}
 use Rattle.ap_shards.specs.Tokens.{Eight}
 use Rattle.ap_shards.specs.declared.opening.NewShards.{NewShards}

@@ -9,17 +9,17 @@
 //! together are the journals, each entry at its own place.
 #![tactic(auto)]
 
-mod acting;
-mod deciding;
+mod actions;
+mod decisions;
 mod desk;
 mod fate;
-mod gathering;
-mod listing;
+mod listings;
 mod opening;
 mod pages;
-mod renewing;
+mod renewal;
 mod shards;
 mod tokens;
+mod totals;
 
 pub use desk::Desk;
 pub use fate::Fate;

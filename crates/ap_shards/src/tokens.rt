@@ -32,20 +32,6 @@ impl<B: Ledgers + Journals> ShardTokens<B> {
     ghost use Rattle.ap_shards.specs.Pages.{AreNewPages, pages_of};
     ghost use Rattle.ap_shards.specs.Tokens.{AreTokens, HasGivenOne, HasMoreThanOne, HaveSeenAlike, IsNewcomer, KeepOwn, holding_of};
 
-    /// Proves what holds of each token; does nothing at run time.
-    pub fn known(&self)
-        ensures { AreTokens B.config self.now }
-    {
-        self.of0.known();
-        self.of1.known();
-        self.of2.known();
-        self.of3.known();
-        self.of4.known();
-        self.of5.known();
-        self.of6.known();
-        self.of7.known();
-    }
-
     /// Splits off one part of each ledger, for a newcomer without entries, which gets the first of this
     /// many new pages of each journal.
     pub fn split_one(&mut self, pages: &mut AllPages<B>, count: u64) -> ShardTokens<B>
@@ -75,6 +61,8 @@ impl<B: Ledgers + Journals> ShardTokens<B> {
         ensures this { KeepOwn self.old self.new }
         ensures that { KeepOwn other.old other.new }
         ensures seen { HaveSeenAlike self.new other.new }
+        ensures tokens { AreTokens B.config self.new }
+        ensures other_tokens { AreTokens B.config other.new }
     {
         self.of0.meet(&mut other.of0);
         self.of1.meet(&mut other.of1);

@@ -5,11 +5,11 @@
 mod desk;
 mod hand;
 mod serving;
-mod starting;
-mod working;
+mod task;
+mod worker;
 
 pub use desk::{Desk, Order, Signs};
 pub use hand::Done;
 pub use serving::Serving;
-pub use starting::{Task, start_all};
-pub use working::work;
+pub use task::{Task, start_all};
+pub use worker::work;

@@ -8,13 +8,13 @@ ghost use Rattle.apd_driver.specs.Shows.{Breaks, BreaksBatch, ShowsBatch, ShowsS
 ghost use Rattle.apd_driver.specs.Ticks.{with_tick};
 
 use crate::PrintFault;
-use crate::asking::tell;
 use crate::console::Console;
 use crate::crew::Serving;
 use crate::found::{Found, is_over};
 use crate::interval::{Given, whole_interval};
 use crate::lines::Lines;
 use crate::operating::Operating;
+use crate::questions::tell;
 use crate::setting::{Setting, Staff};
 use crate::source::{Arrival, Source};
 use apd_script::{Batch, Command, MOST_BYTES, Numbered, begins_with_quit, read_batch};

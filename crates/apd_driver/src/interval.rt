@@ -8,10 +8,10 @@ ghost use Rattle.apd_driver.specs.Captures.{AnswersAndRecords, KeepsRun, PrintsA
 ghost use Rattle.apd_driver.specs.Intervals.{after_wait};
 ghost use Rattle.apd_driver.specs.Shows.{is_memory, any_memory, PrintsPart, BreaksFrom, BreaksMalformed, ShowsScript, Breaks};
 
-use crate::collecting::{collect, send_out};
+use crate::collection::{collect, send_out};
 use crate::console::Console;
 use crate::crew::Serving;
-use crate::feeding::{feed, tell_malformed};
+use crate::feed::{feed, tell_malformed};
 use crate::found::{Found, any_fault, is_over};
 use crate::manner::Manner;
 use crate::operating::Operating;

@@ -9,27 +9,27 @@
 
 mod actions;
 mod answers;
-mod asking;
-mod capturing;
-mod collecting;
+mod captures;
+mod collection;
 mod console;
 mod crew;
-mod feeding;
+mod feed;
 mod found;
 mod input;
 mod interval;
 mod lines;
 mod manner;
 mod operating;
+mod questions;
 mod reports;
-mod running;
 mod script;
 mod setting;
 mod source;
+mod threads;
 
 pub use actions::{Publication, WordUse};
 pub use answers::{AgreementRow, Answer, EntryRow, ProgramRow, StationRow, print_answer};
-pub use capturing::{
+pub use captures::{
     Capturing, Destination, InFile, Printing, Recorder, Recording, Unprinted, Unrecorded,
     capture_law,
 };

@@ -7,12 +7,12 @@ mod json;
 mod lines;
 mod notice;
 mod order;
-mod printing;
+mod print;
 mod report;
 mod words;
 
 pub use notice::{Dropped, Meaning, Notice};
 pub use order::put_in_order;
-pub use printing::{PrintFault, print_reports, print_totals};
+pub use print::{PrintFault, print_reports, print_totals};
 pub use report::{Form, Report, Style, Told, Unread};
 pub(crate) use words::CounterWords;

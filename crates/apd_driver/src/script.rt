@@ -4,14 +4,14 @@ ghost use Rattle.std.specs.Prelude.{◌≡◌, ◌<◌, vec_len, IfOk, OnOk, OnE
 ghost use Rattle.apd_driver.specs.Captures.{KeepsRun, KeepsWhole};
 ghost use Rattle.apd_driver.specs.Shows.{Breaks, ShowsScript, IsBroken, status_of, Finishes, Runs};
 
-use crate::capturing::Printing;
+use crate::captures::Printing;
 use crate::console::Console;
 use crate::crew::{Desk, Serving, Signs};
 use crate::found::Found;
 use crate::lines::Lines;
 use crate::operating::Operating;
-use crate::running::{Ran, Work, run_threads};
 use crate::setting::{Setting, Staff};
+use crate::threads::{Ran, Work, run_threads};
 use crate::{PrintFault, print_totals};
 use std::alloc::{AllocError, Global};
 use std::sync::Wait;

@@ -5,9 +5,9 @@ use Rattle.bpf_regions.specs.declared.hooks.Hook.{Hook}
 use Rattle.bpf_regions.specs.declared.hooks.Hook.TheVariants.{Association}
 use Rattle.capture.specs.Packets.{Seen}
 use Rattle.apd_eval.specs.Unjudged.{count, reason_of, reasons_of, is_same, no_packets, with_packet, AreAtMost}
-use Rattle.apd_eval.specs.declared.unjudged.Reason.{Reason}
-use Rattle.apd_eval.specs.declared.unjudged.Reasons.{Reasons}
-use Rattle.apd_eval.specs.declared.unjudged.Reason.TheVariants.{NoFrame, OtherKind, OtherReceiver, Encrypted, Unasked}
+use Rattle.apd_eval.specs.declared.reasons.Reason.{Reason}
+use Rattle.apd_eval.specs.declared.reasons.Reasons.{Reasons}
+use Rattle.apd_eval.specs.declared.reasons.Reason.TheVariants.{NoFrame, OtherKind, OtherReceiver, Encrypted, Unasked}
 
 abbrev make : ℕ → ℕ → ℕ → ℕ → ℕ → ℕ → Reasons
 make a b c d e f = record { missing = a; other = b; elsewhere = c; encrypted = d; refused = e; requests = f }

@@ -24,7 +24,7 @@ use Rattle.apd_eval.specs.Rulings.{GivesMetered}
 use Rattle.apd_eval.specs.Sums.{sums_text}
 use Rattle.apd_eval.specs.Visits.{counted, ticked, times}
 use Rattle.apd_eval.specs.declared.row.Row.{Row}
-use Rattle.apd_eval.specs.declared.profiling.ProfileForm.{ProfileForm}
+use Rattle.apd_eval.specs.declared.profile.ProfileForm.{ProfileForm}
 use Rattle.apd_eval.specs.declared.ruling.Ruling.{Ruling}
 use Rattle.apd_eval.specs.declared.tried.Policy.{Policy}
 use Rattle.apd_eval.proofs.Counting.{counted_long}

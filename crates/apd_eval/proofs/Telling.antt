@@ -14,7 +14,7 @@ use Rattle.apd_eval.specs.Table.{lines_of}
 use Rattle.apd_eval.specs.Taken.{AreTaken, TakesAll}
 use Rattle.apd_eval.specs.Told.{Contrasted, IsUntold}
 use Rattle.apd_eval.specs.declared.again.Contrast.{Contrast}
-use Rattle.apd_eval.specs.declared.comparing.Contrasts.{Contrasts}
+use Rattle.apd_eval.specs.declared.comparison.Contrasts.{Contrasts}
 use Rattle.apd_eval.specs.declared.row.Row.{Row}
 use Rattle.apd_eval.specs.declared.tried.Policy.{Policy}
 use Rattle.apd_eval.proofs.Changing.{AreChanges-append, equal}

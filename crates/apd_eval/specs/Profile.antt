@@ -20,10 +20,10 @@ use Rattle.apd_eval.specs.Visits.{Passes, times}
 use Rattle.apd_eval.specs.declared.row.Row.{Row}
 use Rattle.apd_eval.specs.declared.sums.Course.{Course}
 use Rattle.apd_eval.specs.declared.tried.Tried.{Tried}
-use Rattle.apd_eval.specs.declared.profiling.Spot.{Spot}
+use Rattle.apd_eval.specs.declared.profile.Spot.{Spot}
 use Rattle.apd_eval.specs.declared.ruling.Ruling.{Ruling}
-use Rattle.apd_eval.specs.declared.profiling.ProfileForm.{ProfileForm}
-use Rattle.apd_eval.specs.declared.profiling.ProfileForm.TheVariants.{Table, Json, Graph}
+use Rattle.apd_eval.specs.declared.profile.ProfileForm.{ProfileForm}
+use Rattle.apd_eval.specs.declared.profile.ProfileForm.TheVariants.{Table, Json, Graph}
 
 -- the line of an instruction: its steps, its slot, and its text
 abbrev pub profile_line : Spot → List ℕ

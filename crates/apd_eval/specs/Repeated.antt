@@ -8,7 +8,7 @@ use Rattle.apd_eval.specs.Evaluated.{IsEvaluated, judged_by}
 use Rattle.apd_eval.specs.Sums.{sums_text}
 use Rattle.apd_eval.specs.Table.{table_text}
 use Rattle.apd_eval.specs.declared.row.Row.{Row}
-use Rattle.apd_eval.specs.declared.repeating.Figures.{Figures}
+use Rattle.apd_eval.specs.declared.rounds.Figures.{Figures}
 
 -- the least of so many durations, and their median; of an even number, the lower of the two in the middle
 pub record AreFigures (count : ℕ) (f : Figures) : Type 0 where

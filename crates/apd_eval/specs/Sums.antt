@@ -9,7 +9,7 @@ use Rattle.apd_eval.specs.Words.{verdict_of}
 use Rattle.apd_eval.specs.declared.row.Row.{Row}
 use Rattle.apd_eval.specs.declared.sums.Course.{Course}
 use Rattle.apd_eval.specs.declared.tally.Tally.{Tally}
-use Rattle.apd_eval.specs.declared.unjudged.Reasons.{Reasons}
+use Rattle.apd_eval.specs.declared.reasons.Reasons.{Reasons}
 use Rattle.apd_eval.specs.declared.words.Verdict.{Verdict}
 use Rattle.apd_eval.specs.declared.words.Verdict.TheVariants.{Admit, Refuse, Size, Decline, Pass, Mark, Discard}
 

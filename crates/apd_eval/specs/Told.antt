@@ -10,7 +10,7 @@ use Rattle.apd_eval.specs.Table.{lines_of}
 use Rattle.apd_eval.specs.Taken.{AreTaken}
 use Rattle.apd_eval.specs.declared.again.Contrast.{Contrast}
 use Rattle.apd_eval.specs.declared.changes.Changes.{Changes}
-use Rattle.apd_eval.specs.declared.comparing.Contrasts.{Contrasts}
+use Rattle.apd_eval.specs.declared.comparison.Contrasts.{Contrasts}
 use Rattle.apd_eval.specs.declared.row.Row.{Row}
 use Rattle.apd_eval.specs.declared.ruling.Ruling.{Ruling}
 use Rattle.apd_eval.specs.declared.tried.Tried.{Tried}

@@ -6,9 +6,9 @@ use Rattle.bpf_regions.specs.declared.hooks.Hook.TheVariants.{Association, Addba
 use Rattle.capture.specs.Packets.{Seen}
 use Rattle.capture.specs.declared.fault.LeftOut.{LeftOut}
 use Rattle.apd_eval.specs.Follows.{is_received}
-use Rattle.apd_eval.specs.declared.unjudged.Reason.{Reason}
-use Rattle.apd_eval.specs.declared.unjudged.Reasons.{Reasons}
-use Rattle.apd_eval.specs.declared.unjudged.Reason.TheVariants.{NoFrame, OtherKind, OtherReceiver, Encrypted, Unasked}
+use Rattle.apd_eval.specs.declared.reasons.Reason.{Reason}
+use Rattle.apd_eval.specs.declared.reasons.Reasons.{Reasons}
+use Rattle.apd_eval.specs.declared.reasons.Reason.TheVariants.{NoFrame, OtherKind, OtherReceiver, Encrypted, Unasked}
 
 -- the octet at an index, or 0 past the end
 abbrev pub octet : List ℕ → ℕ → ℕ

@@ -8,8 +8,8 @@ ghost use Rattle.apd_eval.specs.Changes.{change_line, json_change, change_in, ch
 
 use crate::again::Contrast;
 use crate::follow::Replay;
+use crate::reasons::{json_reasons, none_text, others_text, reasons_of};
 use crate::table::{StationText, station_text};
-use crate::unjudged::{json_reasons, none_text, others_text, reasons_of};
 use bpf_regions::Hook;
 use std::alloc::{AllocError, Global};
 use std::fmt::Write;

@@ -11,7 +11,7 @@ ghost use Rattle.apd_eval.specs.Asked.{IsAlone};
 ghost use Rattle.apd_eval.specs.Follows.{TimePasses, is_received, FrameComes, PacketComes, rows_of};
 ghost use Rattle.apd_eval.specs.Taken.{TakesAll, IsHandedOn};
 
-use crate::handling::handle;
+use crate::handled::handle;
 use crate::meter::Meter;
 use crate::row::{Row, TakesRows};
 use crate::ruling::Ruling;

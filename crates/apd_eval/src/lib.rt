@@ -10,28 +10,28 @@
 
 mod again;
 mod changes;
-mod comparing;
-mod evaluating;
+mod comparison;
+mod evaluation;
 mod follow;
-mod handling;
+mod handled;
 mod meter;
-mod profiling;
-mod repeating;
+mod profile;
+mod reasons;
+mod rounds;
 mod row;
 mod ruling;
 mod sums;
 mod table;
 mod tally;
 mod tried;
-mod unjudged;
 mod witness;
 mod words;
 
 pub use again::Contrast;
-pub use comparing::{Comparison, compare};
-pub use evaluating::evaluation_text;
+pub use comparison::{Comparison, compare};
+pub use evaluation::evaluation_text;
 pub use follow::Replay;
-pub use profiling::{ProfileForm, profile_text};
-pub use repeating::{Figures, Rounds, repeated_text};
+pub use profile::{ProfileForm, profile_text};
+pub use rounds::{Figures, Rounds, repeated_text};
 pub use row::Row;
 pub use ruling::Ruling;

@@ -4,8 +4,8 @@ ghost use Rattle.std.specs.Prelude.{◌≡◌, IfOk, string_bytes};
 ghost use Rattle.apd_eval.specs.Sums.{totals_in, counts_text, steps_text, judged_line, judged_of, judged_text, plain_sums, json_counts, json_steps, json_judged, json_rows, json_sums, totals_text};
 
 use crate::follow::Replay;
+use crate::reasons::{json_reasons, none_text, others_text, reasons_of};
 use crate::tally::Tally;
-use crate::unjudged::{json_reasons, none_text, others_text, reasons_of};
 use bpf_regions::Hook;
 use std::alloc::{AllocError, Global};
 

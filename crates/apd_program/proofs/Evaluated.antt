@@ -19,7 +19,7 @@ use Rattle.apd_program.specs.Captured.{IsCaptured, IsNoCapture}
 use Rattle.apd_program.specs.Evaluating.{Replayed, AreVerdicts, AreDifferences, AreJudged, IsKept, HoldsIfAny, HasBadCodeInForce, IsMaterial, IsEvaluatedWith, HasNoEvaluation, NoConfig, OfConfiguration, OfCode, OfCapture, OfCodeInForce, link_of}
 use Rattle.apd_program.specs.Faults.{IsMemoryOr, HasBadConfiguration, HasBadCode, HasBadCapture, NoFile, NoCapture}
 use Rattle.apd_program.specs.declared.answer.Answer.{Answer}
-use Rattle.apd_program.specs.declared.evaluating.Material.{Material}
+use Rattle.apd_program.specs.declared.eval.Material.{Material}
 use Rattle.apd_program.specs.declared.fault.ProgramFault.{ProgramFault}
 use Rattle.apd_program.specs.declared.fault.ProgramFault.TheVariants as fault
 use Rattle.apd_program.proofs.Admits.{IsOfAdmitted-weaker, IsOfAdmitted-kept}

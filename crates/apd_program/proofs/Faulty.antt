@@ -18,8 +18,8 @@ use Rattle.apd_program.specs.declared.fault.ProgramFault.{ProgramFault}
 use Rattle.apd_program.specs.declared.fault.ProgramFault.TheVariants.{NoMemory}
 use Rattle.apd_words.specs.declared.Source.{Source}
 use Rattle.apd_words.specs.Asked.{config_of, text_of}
-use Rattle.apd_program.specs.declared.reading.Loaded.{Loaded}
-use Rattle.apd_program.specs.declared.reading.Setup.{Setup}
+use Rattle.apd_program.specs.declared.inputs.Loaded.{Loaded}
+use Rattle.apd_program.specs.declared.inputs.Setup.{Setup}
 use Rattle.apd_files.specs.declared.inputs.files.FileKind.{FileKind}
 use Rattle.apd_files.specs.declared.inputs.files.FileKind.TheVariants.{Certificate}
 use Rattle.apd_files.specs.declared.inputs.files.FileFault.{FileFault}

@@ -9,7 +9,7 @@ use Rattle.capture.specs.declared.fault.CaptureFault.TheVariants as capture
 use Rattle.apd_program.specs.Captured.{is_before, IsCut, IsCaptured, IsNoCapture}
 use Rattle.apd_program.specs.Faults.{IsMemoryOr}
 use Rattle.apd_program.specs.Spans.{IsSpan}
-use Rattle.apd_program.specs.declared.capturing.Span.{Span}
+use Rattle.apd_program.specs.declared.span.Span.{Span}
 use Rattle.apd_program.specs.declared.fault.ProgramFault.{ProgramFault}
 use Rattle.apd_program.specs.declared.fault.ProgramFault.TheVariants.{NoMemory}
 use Rattle.apd_program.proofs.Faulty.{known_capture}

@@ -11,8 +11,8 @@ use Rattle.apd_program.specs.declared.answer.Answer.{Answer}
 use Rattle.apd_program.specs.declared.fault.ProgramFault.{ProgramFault}
 use Rattle.apd_words.specs.declared.Source.{Source}
 use Rattle.apd_words.specs.Asked.{config_of}
-use Rattle.apd_program.specs.declared.reading.Loaded.{Loaded}
-use Rattle.apd_program.specs.declared.reading.Setup.{Setup}
+use Rattle.apd_program.specs.declared.inputs.Loaded.{Loaded}
+use Rattle.apd_program.specs.declared.inputs.Setup.{Setup}
 use Rattle.apd_program.specs.Setups.{IsLoaded}
 use Rattle.apd_program.specs.Answers.{IsOfCode, IsOfSlots}
 use Rattle.apd_program.specs.Programs.{IsOfProgram, Undecoded, Decoded}

@@ -17,7 +17,7 @@ use Rattle.apd_program.specs.Evaluating.{Replayed, IsMaterial, HasNoEvaluation, 
 use Rattle.apd_program.specs.Repeating.{AreTimed, IsRepeatedWith, HasNoRepetition, OfTwo, OfOne}
 use Rattle.apd_program.specs.Faults.{IsMemoryOr}
 use Rattle.apd_program.specs.declared.answer.Answer.{Answer}
-use Rattle.apd_program.specs.declared.evaluating.Material.{Material}
+use Rattle.apd_program.specs.declared.eval.Material.{Material}
 use Rattle.apd_program.specs.declared.fault.ProgramFault.{ProgramFault}
 use Rattle.apd_program.specs.declared.fault.ProgramFault.TheVariants.{TwoPrograms}
 use Rattle.apd_program.proofs.Admits.{IsOfAdmitted-kept}

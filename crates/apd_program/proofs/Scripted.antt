@@ -14,13 +14,13 @@ use Rattle.apd_program.specs.Answers.{IsOfText}
 use Rattle.apd_program.specs.Captured.{IsCaptured, IsNoCapture}
 use Rattle.apd_program.specs.Faults.{IsMemoryOr}
 use Rattle.apd_program.specs.Spans.{IsSpan}
-use Rattle.apd_program.specs.declared.capturing.Span.{Span}
-use Rattle.apd_program.specs.declared.framing.Plan.{Plan}
+use Rattle.apd_program.specs.declared.span.Span.{Span}
+use Rattle.apd_program.specs.declared.frames.Plan.{Plan}
 use Rattle.apd_program.specs.Scripts.{IsAddress, IsChoice, GivenChosen, OnlyChosen, NoAddress, IsUnclear, IsChosenScript, IsScript, IsScriptOf, IsPlanned, IsUnscripted, NoCapture, Unclear, HasNoScript, NoFile, NoScript}
 use Rattle.apd_program.specs.declared.answer.Answer.{Answer}
 use Rattle.apd_program.specs.declared.fault.ProgramFault.{ProgramFault}
-use Rattle.apd_program.specs.declared.framing.Choice.{Choice}
-use Rattle.apd_program.specs.declared.framing.Choice.TheVariants as choice
+use Rattle.apd_program.specs.declared.frames.Choice.{Choice}
+use Rattle.apd_program.specs.declared.frames.Choice.TheVariants as choice
 
 -- six bytes, one by one
 six : (xs : List ℕ) → 6 ≤ length xs → length xs < 7 → xs ≡ slice_index_or xs 0 0 ∷ slice_index_or xs 1 0 ∷ slice_index_or xs 2 0 ∷ slice_index_or xs 3 0 ∷ slice_index_or xs 4 0 ∷ slice_index_or xs 5 0 ∷ []

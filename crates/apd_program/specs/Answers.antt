@@ -5,7 +5,7 @@ use Rattle.bpf_decode.specs.Program.{Code}
 use Rattle.bpf_verifier.specs.declared.limit.Limits.{Limits}
 use Rattle.apd_words.specs.Asked.{Asked, Verify, Assemble, Disassemble, ListRaw, Graph, Trace, Evaluate, Repeat, Explain, Frames, Test, Help, Certify, Check}
 use Rattle.apd_program.specs.declared.answer.Answer.{Answer}
-use Rattle.apd_program.specs.declared.reading.Setup.{Setup}
+use Rattle.apd_program.specs.declared.inputs.Setup.{Setup}
 use Rattle.apd_files.specs.declared.inputs.files.FileKind.TheVariants as kind
 use Rattle.apd_files.specs.Held.{Held, Holds, Lacks, HoldsCode, HoldsKept}
 use Rattle.apd_program.specs.Setups.{IsFrame, IsContext, Configures}

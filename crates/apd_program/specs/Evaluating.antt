@@ -14,7 +14,7 @@ use Rattle.apd_config.specs.declared.configuration.Configuration.{Configuration}
 use Rattle.apd_eval.specs.Compared.{IsComparison}
 use Rattle.apd_eval.specs.Evaluated.{IsEvaluation}
 use Rattle.apd_eval.specs.Profile.{IsProfile}
-use Rattle.apd_eval.specs.declared.profiling.ProfileForm.TheVariants as form
+use Rattle.apd_eval.specs.declared.profile.ProfileForm.TheVariants as form
 use Rattle.apd_words.specs.declared.Report.{Report}
 use Rattle.apd_words.specs.declared.Report.TheVariants as report
 use Rattle.apd_files.specs.Held.{Held, Holds, HoldsCode, HoldsKept}
@@ -23,9 +23,9 @@ use Rattle.apd_program.specs.Admitting.{IsOfAdmitted}
 use Rattle.apd_program.specs.Captured.{IsCaptured}
 use Rattle.apd_program.specs.declared.answer.Answer.{Answer}
 use Rattle.apd_program.specs.declared.answer.Answer.TheVariants.{Verdicts, Differences, CutVerdicts}
-use Rattle.apd_program.specs.declared.evaluating.Exam.{Exam}
-use Rattle.apd_program.specs.declared.evaluating.Material.{Material}
-use Rattle.apd_program.specs.declared.evaluating.Setting.{Setting}
+use Rattle.apd_program.specs.declared.eval.Exam.{Exam}
+use Rattle.apd_program.specs.declared.eval.Material.{Material}
+use Rattle.apd_program.specs.declared.eval.Setting.{Setting}
 
 -- what a configuration says to the link
 abbrev pub link_of : Configuration → Config

@@ -12,7 +12,7 @@ use Rattle.apd_words.specs.declared.Source.{Source}
 use Rattle.apd_words.specs.Asked.{config_of}
 use Rattle.apd_program.specs.declared.fault.ProgramFault.{ProgramFault}
 use Rattle.apd_program.specs.declared.fault.ProgramFault.TheVariants as fault
-use Rattle.apd_program.specs.declared.reading.Setup.{Setup}
+use Rattle.apd_program.specs.declared.inputs.Setup.{Setup}
 use Rattle.apd_files.specs.declared.inputs.files.FileKind.{FileKind}
 use Rattle.apd_files.specs.declared.inputs.files.FileKind.TheVariants.{Configuration, Code, Certificate, Capture}
 use Rattle.apd_files.specs.Held.{Held, Holds, Lacks, HoldsCode, code_of}

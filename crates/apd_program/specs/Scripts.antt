@@ -12,12 +12,12 @@ use Rattle.apd_policies.specs.declared.frames.chosen.Named.TheVariants.{NoOne, O
 use Rattle.apd_policies.specs.declared.frames.script.Manner.{Manner}
 use Rattle.apd_program.specs.Captured.{IsCaptured, IsNoCapture}
 use Rattle.apd_program.specs.Spans.{IsSpan}
-use Rattle.apd_program.specs.declared.capturing.Span.{Span}
-use Rattle.apd_program.specs.declared.framing.Plan.{Plan}
+use Rattle.apd_program.specs.declared.span.Span.{Span}
+use Rattle.apd_program.specs.declared.frames.Plan.{Plan}
 use Rattle.apd_program.specs.declared.answer.Answer.{Answer}
 use Rattle.apd_program.specs.declared.answer.Answer.TheVariants.{Script, CutScript}
-use Rattle.apd_program.specs.declared.framing.Choice.{Choice}
-use Rattle.apd_program.specs.declared.framing.Choice.TheVariants as choice
+use Rattle.apd_program.specs.declared.frames.Choice.{Choice}
+use Rattle.apd_program.specs.declared.frames.Choice.TheVariants as choice
 
 -- the word spells an address, by 12 hex digits
 pub record IsAddress (word address : List ℕ) : Type 0 where

@@ -9,8 +9,8 @@ use Rattle.apd_config.specs.Text.{IsTextOf}
 use Rattle.apd_config.specs.declared.configuration.Configuration.{Configuration}
 use Rattle.apd_words.specs.declared.Source.{Source}
 use Rattle.apd_words.specs.Asked.{config_of}
-use Rattle.apd_program.specs.declared.reading.Loaded.{Loaded}
-use Rattle.apd_program.specs.declared.reading.Setup.{Setup}
+use Rattle.apd_program.specs.declared.inputs.Loaded.{Loaded}
+use Rattle.apd_program.specs.declared.inputs.Setup.{Setup}
 
 -- the word's hex digits of either case spell the frame
 pub record IsFrame (word frame : List ℕ) : Type 0 where

@@ -6,9 +6,9 @@ ghost use Rattle.apd_program.specs.Admitting.{IsAdmission};
 ghost use Rattle.apd_program.specs.Verifying.{within};
 
 use crate::answer::{Answer, refused, undecoded};
-use crate::explaining::Reason;
+use crate::explain::Reason;
 use crate::fault::ProgramFault;
-use crate::verifying::admit;
+use crate::verdicts::admit;
 use apd_words::Terms;
 use bpf_decode::{Program, decode};
 use bpf_machine::Accepted;

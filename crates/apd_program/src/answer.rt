@@ -5,7 +5,7 @@ ghost use Rattle.apd_program.specs.Refusing.{IsUndecoded, IsRefused};
 ghost use Rattle.apd_program.specs.Slots.{digits_line, slot_lines};
 
 use crate::fault::ProgramFault;
-use crate::scripting::ScriptText;
+use crate::script_text::ScriptText;
 use bpf_cert::WithinFault;
 use bpf_decode::DecodeFault;
 use bpf_text::AsmFault;

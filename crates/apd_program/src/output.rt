@@ -9,7 +9,7 @@ ghost use Rattle.apd_program.specs.Delivered.{Delivers, Stores, status_after};
 ghost use Rattle.apd_program.specs.Lines.{printed};
 
 use crate::answer::Answer;
-use crate::printing::{NO_MEMORY, say, unsaved, unwritten};
+use crate::messages::{NO_MEMORY, say, unsaved, unwritten};
 use apd_files::{Files, Unwritten, write_whole};
 use std::alloc::Global;
 use std::io::{ErrorKind, Write};

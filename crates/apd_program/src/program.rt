@@ -12,16 +12,15 @@ ghost use Rattle.apd_program.specs.Answers.{IsAnswer, IsOfText, HasNoAnswer};
 ghost use Rattle.apd_program.specs.Program.{Performs, Responds, Runs, Tells};
 
 use crate::answer::Answer;
-use crate::certifying::Inquiry;
-use crate::explaining::Reason;
+use crate::certificates::Inquiry;
+use crate::explain::Reason;
 use crate::fault::{ProgramFault, of_context};
+use crate::inputs::{Loaded, Setup, certificate, frame, load, read};
+use crate::messages::{complain, print_text, say, say_if_any};
 use crate::output::{conclude, deliver};
-use crate::printing::{complain, print_text, say, say_if_any};
-use crate::reading::{Loaded, Setup, certificate, frame, load, read};
-use crate::verifying::Stimulus;
+use crate::verdicts::Stimulus;
 use crate::{
-    certifying, drawing, evaluating, explaining, framing, helping, hints, repeating, testing,
-    texts, verifying,
+    case_files, certificates, eval, explain, frames, graph, help, hints, repeat, texts, verdicts,
 };
 use apd_files::{FileKind, Files};
 use apd_text::context_for;
@@ -76,7 +75,13 @@ pub fn apd_main<'a, F: Files, O: Write, E: Write>(
             let clock = &NoClock;
             respond(alloc, Posed { query, clock }, files, out, err)
         }
-        Ok(Request::Test(paths)) => testing::judge_cases(alloc, paths.as_slice(), files, out, err),
+        Ok(Request::Test(paths)) => case_files::judge_cases(
+            alloc,
+            paths.as_slice(),
+            files,
+            out,
+            err,
+        ),
         Ok(Request::Run(_)) => complain(alloc, &ProgramFault::NoThreads, err),
         Ok(Request::Live(_)) => complain(alloc, &ProgramFault::NoThreads, err),
         Err(told) => tell(alloc, &told, out, err),
@@ -114,7 +119,7 @@ pub fn respond<C: Clock, F: Files, O: Write, E: Write>(
     let mut reason = Reason::wanted_by(&question);
     match answer(alloc, question, clock, files, &mut reason) {
         Ok(answer) => {
-            let sentence = explaining::sentence(alloc, &answer, reason.insn());
+            let sentence = explain::sentence(alloc, &answer, reason.insn());
             let hint = hints::of(alloc, &question, &answer);
             let delivered = deliver(alloc, answer, output, files, out);
             let status = conclude(alloc, delivered, output, err);
@@ -144,16 +149,14 @@ fn answer<C: Clock, F: Files>(
         Question::Disassemble { source, slots } => disassemble(alloc, source, slots, files),
         Question::ListRaw { source, slots } => list_raw(alloc, source, slots, files, reason),
         Question::Graph { source, explain } => {
-            drawing::graph(alloc, source, explain, files, reason)
+            graph::graph(alloc, source, explain, files, reason)
         }
         Question::Trace(trial) => trace(alloc, trial, files, reason),
-        Question::Evaluate(evaluation) => evaluating::evaluate(alloc, evaluation, files, reason),
-        Question::Repeat(repetition) => {
-            repeating::repeat(alloc, repetition, clock, files, reason)
-        }
-        Question::Explain { number } => explaining::page(alloc, number),
-        Question::Frames(conversion) => framing::frames(alloc, conversion, files),
-        Question::Help { command } => helping::help(alloc, command),
+        Question::Evaluate(evaluation) => eval::evaluate(alloc, evaluation, files, reason),
+        Question::Repeat(repetition) => repeat::repeat(alloc, repetition, clock, files, reason),
+        Question::Explain { number } => explain::page(alloc, number),
+        Question::Frames(conversion) => frames::frames(alloc, conversion, files),
+        Question::Help { command } => help::help(alloc, command),
         Question::Certify { subject } => certify(alloc, subject, files, reason),
         Question::Check(claim) => check(alloc, claim, files, reason),
     }
@@ -171,7 +174,7 @@ fn verify<F: Files>(
         (IsMemoryOr (HasNoAnswer (F.held files.old) (asked_verdict subject.entry))) }
 {
     let Loaded { code, setup } = load(alloc, subject.source, files)?;
-    let answer = verifying::verify(alloc, code.as_slice(), setup.shapes, subject.terms, reason);
+    let answer = verdicts::verify(alloc, code.as_slice(), setup.shapes, subject.terms, reason);
     reason.points_at(alloc, code.as_slice(), &answer);
     answer
 }
@@ -243,7 +246,7 @@ fn trace<F: Files>(
         context: &context,
         draw,
     };
-    let answer = verifying::trace(alloc, code.as_slice(), shapes, stimulus, reason);
+    let answer = verdicts::trace(alloc, code.as_slice(), shapes, stimulus, reason);
     reason.points_at(alloc, code.as_slice(), &answer);
     answer
 }
@@ -279,7 +282,7 @@ fn certify<F: Files>(
         (IsMemoryOr (HasNoAnswer (F.held files.old) (asked_certificate subject.entry))) }
 {
     let Loaded { code, setup } = load(alloc, subject.source, files)?;
-    let answer = certifying::certify(alloc, code.as_slice(), setup.shapes, subject.terms);
+    let answer = certificates::certify(alloc, code.as_slice(), setup.shapes, subject.terms);
     reason.points_at(alloc, code.as_slice(), &answer);
     answer
 }
@@ -303,5 +306,5 @@ fn check<F: Files>(
         bytes: bytes.as_slice(),
         work: claim.work,
     };
-    certifying::check(alloc, code.as_slice(), setup.shapes, inquiry)
+    certificates::check(alloc, code.as_slice(), setup.shapes, inquiry)
 }

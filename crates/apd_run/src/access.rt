@@ -6,24 +6,24 @@
 //! into that worker's queue, and those that were decided are entries of the shards' histories; in the end the batches are
 //! all that was decided. The last line says what all shares of the ledgers have counted, which is what the reports count.
 
-mod counting;
-mod gathering;
+mod counts;
 mod hands;
-mod hiring;
-mod listing;
-mod naming;
+mod names;
 mod operator;
 mod program_counts;
 mod register;
-mod running;
-mod telling;
+mod reports;
+mod returned;
+mod rows;
+mod run;
+mod tokens;
 mod worker;
 
 pub use crate::loads::{Limits, StateLimit};
 pub use ap_live::{Gate, OpenGate, Settings};
 pub use ap_shards::NewShards;
-pub use naming::Names;
+pub use names::Names;
 pub use operator::LiveOperator;
-pub(crate) use running::run_live;
-pub use running::{Opening, Supplies};
+pub(crate) use run::run_live;
+pub use run::{Opening, Supplies};
 pub use worker::LiveWorker;

@@ -4,9 +4,9 @@
 //! `bpf_verifier`, `bpf_cert` and `versions`. Each publishes the program that a file's digits spell, if the verifier
 //! or a certificate admits it for the hook, within limits of states and of work; otherwise it publishes nothing. The
 //! result is what a run prints of the line.
-mod adopting;
-mod loading;
+mod adoption;
+mod programs;
 
-pub use adopting::Adoption;
+pub use adoption::Adoption;
 pub use bpf_verifier::{Limits, StateLimit};
-pub use loading::Loads;
+pub use programs::Loads;

@@ -3,7 +3,7 @@
 //! Main types: `Progress`, and the trait `Watcher`, which `run` tells of a run. It depends on `ap_live`, whose `Gate`
 //! workers tell of each event. No clause speaks of the texts.
 mod progress;
-mod watching;
+mod watcher;
 
 pub use progress::Progress;
-pub use watching::Watcher;
+pub use watcher::Watcher;

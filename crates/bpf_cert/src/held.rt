@@ -9,10 +9,10 @@ ghost use Rattle.bpf_cert.specs.Limits.{CountsOne, CountsParts, CountsUnits, IsS
 ghost use Rattle.bpf_cert.specs.States.{claim_of};
 ghost use Rattle.bpf_cert.specs.Steps.{Tells, Serves};
 
-use crate::building::{blank, state_of};
 use crate::claim::Claim;
-use crate::claiming::claim;
+use crate::entry_claim::claim;
 use crate::limit::{Meter, Stop, spend_all};
+use crate::states::{blank, state_of};
 use bpf_absstate::{AbsState, Difference};
 use bpf_cert_format::Unread;
 use bpf_prune::parts_of;

@@ -6,25 +6,25 @@
 //! within the returned budget. What `certificate` returns is covered.
 #![tactic(auto)]
 
-mod building;
-pub mod certifying;
-pub mod checking;
+pub mod certificates;
+pub mod checker;
 pub mod claim;
-pub mod claiming;
 pub mod claims;
 pub mod coverage;
-mod describing;
+mod cuts;
+mod description;
+pub mod entry_claim;
 pub mod fault;
 pub mod held;
 pub mod laws;
 pub mod limit;
-mod sifting;
+mod sieve;
 mod source;
-mod widening;
+mod states;
 
 pub use bpf_prune::Work;
-pub use certifying::{certificate, certificate_counted, certificate_within};
-pub use checking::{check, check_counted, check_within};
+pub use certificates::{certificate, certificate_counted, certificate_within};
+pub use checker::{check, check_counted, check_within};
 pub use claim::Claim;
 pub use claims::Claims;
 pub use fault::CertFault;

@@ -5,9 +5,9 @@ ghost use Rattle.bpf_absstate.specs.WellFormed.{IsView};
 ghost use Rattle.bpf_cert_format.specs.Fits.{FitsEntry};
 ghost use Rattle.bpf_cert.specs.States.{claim_of};
 
-use crate::building::{blank, state_of};
 use crate::claim::Claim;
-use crate::claiming::claim;
+use crate::entry_claim::claim;
+use crate::states::{blank, state_of};
 use bpf_absstate::AbsState;
 use bpf_cert_format::Entry;
 use std::alloc::{AllocError, Global};

@@ -118,7 +118,10 @@ pub(crate) fn deal<B: Ledgers + Journals>(
         return Err(AllocError);
     };
     let parts = PARTS - many.0 as u64 - many.1 as u64;
-    let shares = Box::new(alloc, left.into_shares())?;
+    let (shares, pages, passes) = left.into_all();
+    drop(pages);
+    drop(passes);
+    let shares = Box::new(alloc, shares)?;
     Ok((crew, Purse { shares, parts }))
 }
 

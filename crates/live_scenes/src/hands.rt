@@ -44,7 +44,9 @@ impl<'a, B: Ledgers + Journals> Hand<'a, B> {
             token,
             number: _,
         } = self;
-        purse.take(Box::into_inner(token).into_shares());
+        let (shares, pages) = Box::into_inner(token).into_parts();
+        drop(pages);
+        purse.take(shares);
     }
 }
 
@@ -162,6 +164,8 @@ impl<'a, B: Ledgers + Journals> Chief<'a, B> {
             token,
             number: _,
         } = self;
-        purse.take(Box::into_inner(token).into_shares());
+        let (shares, pages) = Box::into_inner(token).into_parts();
+        drop(pages);
+        purse.take(shares);
     }
 }

@@ -6,23 +6,23 @@
 //! operator, each with one part of each ledger. So the totals can be read once all parts are back.
 #![tactic(auto)]
 
+mod configurations;
 mod crew;
 mod frames;
 mod hands;
-mod meeting;
-mod operating;
+mod meetings;
+mod operators;
 mod programs;
 mod purse;
 mod scenes;
-mod serving;
-mod setting;
+mod service;
 mod soaks;
-mod tallying;
+mod tally;
 
+pub use configurations::settings;
 pub use frames::{address, data, joining};
 pub use hands::{Chief, Hand};
-pub use meeting::{meet_operator, meet_workers, submit_and_meet};
+pub use meetings::{meet_operator, meet_workers, submit_and_meet};
 pub use programs::publish;
 pub use scenes::{Scene, Story, play};
-pub use setting::settings;
 pub use soaks::{Found, Soak};

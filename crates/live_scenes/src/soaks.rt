@@ -1,11 +1,11 @@
 //! Operators, workers and a publisher, all at once.
 
 use crate::hands::{Chief, Hand};
-use crate::operating::{Diary, operate_on};
+use crate::operators::{Diary, operate_on};
 use crate::programs::publish;
 use crate::scenes::{Scene, Story};
-use crate::serving::serve_on;
-use crate::tallying::Tally;
+use crate::service::serve_on;
+use crate::tally::Tally;
 use ap_books::{Ledgers, Totals};
 use ap_live::OpenGate;
 use ap_locked::Journals;

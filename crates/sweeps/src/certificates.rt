@@ -8,8 +8,8 @@
 
 ghost use Rattle.std.specs.Prelude.{◌<◌, length};
 
+use crate::examples::{Asked, hook_in, program_of};
 use crate::rows::field;
-use crate::worked::{Asked, hook_in, program_of};
 use bpf_cert::{certificate, check, check_within};
 use bpf_decode::Program;
 use bpf_machine::probing::probe;

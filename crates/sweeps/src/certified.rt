@@ -2,7 +2,7 @@
 
 ghost use Rattle.std.specs.Prelude.{◌≤◌, ◌+◌, length};
 
-use crate::admitted::undecoded;
+use crate::admission::undecoded;
 use crate::maps::shapes;
 use crate::numbers::Numbers;
 use crate::runs::{Inputs, judged_runs};

@@ -5,7 +5,7 @@ use crate::codes::code;
 use crate::files::samples;
 use crate::numbers::Numbers;
 use crate::tally::Judged;
-use crate::{admitted, assembled, captured, certified, configured, framed, scripted};
+use crate::{admission, assembly, captures, certified, configurations, frames, scripts};
 use std::alloc::{AllocError, Global};
 use std::io;
 use std::rt::Files;
@@ -210,7 +210,7 @@ impl Kind {
     /// A sample as an input: code as it is, its text or its certificate.
     fn turned(&self, alloc: Global, sample: Vec<u8>) -> Result<Vec<u8>, AllocError> {
         match self.of {
-            Of::Text => assembled::text_of(alloc, &sample),
+            Of::Text => assembly::text_of(alloc, &sample),
             Of::Certificate => certified::certificate_of(alloc, &sample),
             _ => Ok(sample),
         }
@@ -250,13 +250,13 @@ impl Kind {
         input: &[u8],
     ) -> Result<Judged, AllocError> {
         match self.of {
-            Of::Code => admitted::judged(alloc, numbers, input),
-            Of::Frame | Of::Octet => framed::judged(alloc, input),
-            Of::Text => assembled::judged(alloc, input),
-            Of::Configuration => configured::judged(alloc, input),
-            Of::Script => scripted::judged(alloc, input),
+            Of::Code => admission::judged(alloc, numbers, input),
+            Of::Frame | Of::Octet => frames::judged(alloc, input),
+            Of::Text => assembly::judged(alloc, input),
+            Of::Configuration => configurations::judged(alloc, input),
+            Of::Script => scripts::judged(alloc, input),
             Of::Certificate => certified::judged(alloc, numbers, input),
-            Of::Capture => captured::judged(alloc, input),
+            Of::Capture => captures::judged(alloc, input),
         }
     }
 }

@@ -19,28 +19,28 @@
 //! If something is wrong, it prints the kind, the seed and the input, or the row and its result, and exits with status 1.
 #![tactic(auto)]
 
-mod admitted;
-mod assembled;
-mod captured;
+mod admission;
+mod assembly;
+mod captures;
 mod certificates;
 mod certified;
 mod changes;
 mod codes;
-mod configured;
+mod configurations;
+mod examples;
 mod files;
-mod framed;
+mod frames;
 mod grown;
 mod kinds;
 mod maps;
 mod numbers;
 mod rows;
 mod runs;
-mod scripted;
+mod scripts;
 mod slots;
 mod sweep;
 mod tally;
 mod weight;
-mod worked;
 
 use kinds::{KINDS, Kind};
 use std::process::ExitCode;

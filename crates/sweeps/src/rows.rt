@@ -10,11 +10,11 @@
 //!   `certificate DIGITS`.
 //!
 //! What may be asked: `line LINE`, how a line is written again; `insn DIGITS`, the
-//! instruction of one or two slots; `opcodes`, how many are known. `worked` and `certificates` have the rest.
+//! instruction of one or two slots; `opcodes`, how many are known. `examples` and `certificates` have the rest.
 
+use crate::examples::{Asked, told_of_code};
 use crate::files::{bytes_of, sample};
 use crate::maps::shapes_of;
-use crate::worked::{Asked, told_of_code};
 use bpf_decode::decode;
 use bpf_insn::{FieldFault, Insn};
 use bpf_line::{InsnText, read_line};

@@ -1,6 +1,6 @@
 //! A sweep: inputs of a kind, made from a seed, and their results.
 
-use crate::framed::edge_of;
+use crate::frames::edge_of;
 use crate::kinds::{Kind, Of};
 use crate::numbers::Numbers;
 use crate::tally::{Judged, Tally};

@@ -10,7 +10,7 @@ ghost use Rattle.apd_driver.specs.Words.{then, counter_words};
 
 use crate::answers::answer::{AgreementRow, Answer, EntryRow, ProgramRow, StationRow};
 use crate::answers::rows::ShapeWords;
-use crate::capturing::Printing;
+use crate::captures::Printing;
 use crate::reports::{CounterWords, PrintFault};
 use ap_books::Totals;
 use bpf_regions::Shape;

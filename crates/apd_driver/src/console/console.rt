@@ -5,7 +5,7 @@ ghost use Rattle.std.specs.Io.KnownBytes.{Keeps};
 ghost use Rattle.apd_driver.specs.declared.manner.Manner.{Manner};
 
 use crate::Report;
-use crate::capturing::Printing;
+use crate::captures::Printing;
 use crate::manner::Manner;
 use apd_script::Numbered;
 use std::io;

@@ -3,7 +3,7 @@
 ghost use Rattle.std.specs.Prelude.{◌≡◌};
 
 use crate::Report;
-use crate::capturing::{Printing, Unrecorded};
+use crate::captures::{Printing, Unrecorded};
 use crate::console::console::Console;
 use crate::console::notes::Notes;
 use crate::manner::Manner;

@@ -12,7 +12,7 @@ ghost use Rattle.ap_queues.specs.Lines.{HaveMade};
 ghost use Rattle.apd_run.specs.Dealing.{AreHands, AreNumberedFrom, AreRest, IsNewOperator, IsNewWorker};
 ghost use Rattle.apd_run.specs.Hands.{AreUnused};
 
-use crate::access::hiring::hire;
+use crate::access::tokens::hire;
 use ap_books::{Ledgers, Portions};
 use ap_live::{LeftTokens, LiveAp, OperatorToken, WorkerToken, tokens_law};
 use ap_locked::Journals;

@@ -16,11 +16,11 @@ ghost use Rattle.apd_script.specs.Asked.{Adopt, Load, Read, Store, Sum, Unload};
 ghost use Rattle.apd_driver.specs.Tallies.{told_counts};
 ghost use Rattle.apd_driver.specs.Crews.{Works, gains};
 
-use crate::access::counting::counted_in;
-use crate::access::naming::Names;
+use crate::access::counts::counted_in;
+use crate::access::names::Names;
 use crate::access::program_counts::ProgramCounts;
 use crate::access::register::Register;
-use crate::access::telling::report_all;
+use crate::access::reports::report_all;
 use crate::access::worker::LiveWorker;
 use crate::loads::{Adoption, Limits, Loads};
 use ap_books::{Ledgers, Portions, Totals};
@@ -251,7 +251,6 @@ impl<'a, B: Ledgers + Journals, L: Names, F: Files> LiveOperator<'a, B, L, F> {
             ≡ record worker.old.token { shards = worker.new.token.shards } }
     {
         worker.token.meet_operator(&mut *self.token);
-        worker.token.known();
     }
 
     /// Takes over a worker's counts, also those of the runs of its programs, gives it fresh parts of the ledgers, and

@@ -3,7 +3,7 @@
 ghost use Rattle.std.specs.Prelude.{◌≡◌, ◌<◌, [], ◌∷◌, ◌++◌, OnErr, OnOk};
 ghost use Rattle.apd_run.specs.Batches.{batches_of};
 
-use crate::access::naming::Names;
+use crate::access::names::Names;
 use ap_journal::{Author, Describes, Entry, Known, Opened};
 use ap_live::Tagged;
 use std::alloc::AllocError;

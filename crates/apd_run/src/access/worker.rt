@@ -1,6 +1,6 @@
 //! The workers of a run.
 
-use crate::access::naming::Names;
+use crate::access::names::Names;
 use crate::access::register::Receipt;
 use ap_books::Ledgers;
 use ap_live::{Gate, LiveAp, Tagged, WorkerToken};

@@ -1,6 +1,6 @@
 //! The progress of a run.
 
-use crate::progress::watching::Watcher;
+use crate::progress::watcher::Watcher;
 use ap_live::Gate;
 use std::sync::atomic::{AtomicU64, Ordering};
 use std::time::{Clock, Instant};

@@ -15,6 +15,6 @@ returns-clause-journal g c =
     record {
       journal = journal;
       handled = journal_handled (rules g.row.SHARD g.B.Journals.config) was c.self.invariant.2;
-      whole = are_whole g.B.Ledgers.shares pages journal (made_longer pages c.args.pages.now.seen journal c.look.ensures.seen c.known.ensures.made) c.known.ensures.powers c.requires.pages c.audit.ensures.marks (c.audit.ensures.sizes ∙ c.self.invariant.3);
+      whole = are_whole g.B.Ledgers.shares pages journal (made_longer pages c.args.pages.now.seen journal c.look.ensures.seen c.look.ensures.made) c.look.ensures.powers c.requires.pages c.audit.ensures.marks (c.audit.ensures.sizes ∙ c.self.invariant.3);
       counted = c.read.ensures.whole ∙ c.self.invariant.2.counted;
     }

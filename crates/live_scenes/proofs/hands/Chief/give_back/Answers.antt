@@ -5,4 +5,4 @@ use Rattle.ap_live.specs.Tokens.{Operator}
 use Rattle.live_scenes.proofs.hands.Chief.give_back.Goals as goal
 
 pub take-requires : goal.take-requires
-take-requires g c = subst (HasParts 1) (ap (λ (t : Operator). holding_of t.shards) (sym c.into_inner.ensures) ∙ sym c.into_shares.ensures) c.args.self.is_chief.part
+take-requires g c = subst (HasParts 1) (ap (λ (t : Operator). holding_of t.shards) (sym c.into_inner.ensures) ∙ sym c.into_parts-shares.ensures.shares) c.args.self.is_chief.part

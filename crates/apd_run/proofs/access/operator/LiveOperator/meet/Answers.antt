@@ -23,8 +23,8 @@ pub returns-clause-meets : goal.returns-clause-meets
 returns-clause-meets g c =
     record {
       sees = sees_more g.F.Files.held _ _ c.meet_operator.new.operator _ c.self.view_is c.deref_mut.ensures.value c.meet_operator.ensures.same_operator c.meet_operator.ensures.that;
-      holds = met_histories _ _ _ c.meet_operator.ensures.seen c.known.ensures.upholds;
-      among = met_among _ _ _ c.meet_operator.ensures.seen c.known.ensures.upholds;
+      holds = met_histories _ _ _ c.meet_operator.ensures.seen c.meet_operator.ensures.upholds;
+      among = met_among _ _ _ c.meet_operator.ensures.seen c.meet_operator.ensures.upholds;
     }
 
 pub returns-clause-same : goal.returns-clause-same

@@ -1,5 +1,0 @@
-use Rattle.std.proofs.Common.{inr, refl}
-use Rattle.apd_run.proofs.access.running.without_memory.Goals as goal
-
-pub returns : goal.returns
-returns g c = record { same = refl; broken = inr refl }

@@ -1,6 +1,0 @@
-use Rattle.std.proofs.Common.{◌≡◌, take}
-use Rattle.bpf_cert.specs.Built.{built}
-use Rattle.bpf_cert.proofs.building.with_frames.Given as goal
-
-abbrev pub invariant-loop-k : goal.invariant-loop-k
-invariant-loop-k l = l.state ≡ built (take l.k l.frames)
