@@ -8,7 +8,7 @@ use Rattle.blockack.specs.Sinks.{ReceivesAll}
 use Rattle.ap_model.specs.declared.event.Out.{Out}
 use Rattle.ap_model.specs.Readings.{Held}
 use Rattle.ap_model.specs.Agreements.{ups, up_held}
-use Rattle.ap_core.specs.declared.passing.Ups.{Ups}
+use Rattle.ap_core.specs.declared.ups.Ups.{Ups}
 
 -- all that a window passed to it
 pub ups_received : (R : Ups → ℕ → Held → Ups → Type 0) →

@@ -1,10 +1,10 @@
 //! Eight shards.
 
-ghost use Rattle.std.specs.Prelude.{◌≡◌, ℕ, ◌+◌, ◌≤◌, ◌<◌, [], ◌∷◌, Some, IfSome, IfOk, IfErr, MatchOption, replicate, vec_len, vec_capacity};
+ghost use Rattle.std.specs.Prelude.{◌≡◌, ◌+◌, ◌≤◌, ◌<◌, [], ◌∷◌, Some, IfSome, IfOk, IfErr, MatchOption, replicate, vec_len, vec_capacity};
 ghost use Rattle.std.specs.Option.{option_map};
-ghost use Rattle.ap_model.specs.Runs.{History};
+ghost use Rattle.ap_model.specs.declared.event.Event.{Event};
 ghost use Rattle.ap_model.specs.AccessPoint.{shard_of, shard_of_address, shard_of_bytes, InPlace};
-ghost use Rattle.ap_core.specs.AccessPoints.{rules_of, readings_of, outs_in, AreFresh, RunsAll, RunsOne, TickedBelow};
+ghost use Rattle.ap_core.specs.AccessPoints.{rules_of, outs_in, AreFresh, RunsAll, RunsOne, TickedBelow};
 
 use crate::shard::Shard;
 use ap_model::{Event, Judge, LinkConfig, Out};
@@ -20,7 +20,7 @@ fn shard_of_address(station: Address) -> usize
 }
 
 /// The shard of a frame's sender; 0 if the bytes are too short to name one.
-fn shard_of_bytes(bytes: &[u8]) -> usize
+pub fn shard_of_bytes(bytes: &[u8]) -> usize
     ensures is { result ≡ shard_of_bytes bytes.now }
     ensures fits { result < 8 }
 {
@@ -68,11 +68,6 @@ pub fn new_shards(alloc: Global, config: &LinkConfig) -> Result<[Shard; 8], Allo
         Shard::with_config(alloc, 7, eighth),
     ])
 }
-
-/// Proves that each of these shards has a history; does nothing at run time.
-pub fn known_shards(shards: &[Shard; 8])
-    ensures { (s : ℕ) → s < 8 → ∥ History (rules_of shards.now s) (readings_of shards.now s) ∥₁ }
-{}
 
 /// Ticks the first `count` shards. The list has capacity for their outputs and `beside` more.
 /// Everything is allocated first, from the last shard down.
@@ -134,6 +129,24 @@ fn handle_at<J: Judge>(
     }
 }
 
+/// Receives bytes that the caller keeps, at the shard that they concern (`shard_of_bytes`), as
+/// `handle_one` handles the event of such a frame.
+pub fn receive_one<J: Judge>(
+    alloc: Global,
+    shards: &mut [Shard; 8],
+    bytes: &[u8],
+    judge: &mut J,
+) -> Option<Vec<Out>>
+    ensures { RunsOne J.gives shards.old (Event.Frame bytes.now) judge.old
+        (option_map (λ outs. outs.items) result) shards.new judge.new }
+{
+    let shard = &mut shards[shard_of_bytes(bytes)];
+    match shard.receive(alloc, bytes, judge) {
+        Ok(outcome) => Some(outcome.outs),
+        Err(_) => None,
+    }
+}
+
 /// Handles an event at the shards that it concerns (`shard_of`): a tick at all eight shards, or at
 /// none. Returns its outputs, those of a tick ordered by shard. `None` if it is refused for lack of
 /// memory, which changes nothing and asks for no verdict.
@@ -147,10 +160,7 @@ pub fn handle_one<J: Judge>(
         (option_map (λ outs. outs.items) result) shards.new judge.new }
 {
     match event {
-        Event::Frame(bytes) => {
-            let at = shard_of_bytes(bytes.bytes());
-            handle_at(alloc, shards, at, event, judge)
-        }
+        Event::Frame(bytes) => receive_one(alloc, shards, bytes.bytes(), judge),
         Event::Tick(units) => tick_all(alloc, shards, *units),
         Event::Kick { station, reason: _ } => {
             let at = shard_of_address(*station);

@@ -6,9 +6,9 @@ ghost use Rattle.ap_model.specs.Agreements.{Ends, delba};
 ghost use Rattle.ap_model.specs.Steps.{Closes};
 ghost use Rattle.ap_core.specs.Handles.{reading, rules};
 
-use crate::passing::pass_all;
 use crate::room::{FrameRoom, Room};
 use crate::state::State;
+use crate::ups::pass_all;
 use ap_model::{LinkConfig, Out};
 use mac_frame::{Address, MacFrame, Reason, Tid};
 use std::alloc::{AllocError, Global};

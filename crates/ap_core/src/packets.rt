@@ -10,9 +10,9 @@ ghost use Rattle.ap_core.specs.Handles.{reading, held_item};
 ghost use Rattle.ap_core.specs.DataFrames.{IsRead, IsUnder, IsWantedFor, HandlesData, JudgesData};
 
 use crate::outcome::Outcome;
-use crate::passing::Ups;
 use crate::room::with_out;
 use crate::state::State;
+use crate::ups::Ups;
 use ap_model::{Held, Judge, Octets, Out, Up};
 use assoc::Standing;
 use bpf_regions::{Context, Frame, Hook};

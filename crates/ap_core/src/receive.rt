@@ -2,7 +2,7 @@
 
 ghost use Rattle.std.specs.Prelude.{◌≡◌, ℕ, [], ◌∷◌, IfOk, IfErr};
 ghost use Rattle.ap_model.specs.declared.event.Out.{Out};
-ghost use Rattle.mac_frame.specs.Spelling.{spelling};
+ghost use Rattle.mac_frame.specs.Spelling.{IsFrame, spelling};
 ghost use Rattle.ap_model.specs.Steps.{FrameComes, Checked, check_of};
 ghost use Rattle.ap_core.specs.Handles.{reading, rules, IsRead, ruled_by};
 ghost use Rattle.ap_core.specs.Noted.{IsNoted};
@@ -93,6 +93,7 @@ fn on_frame<J: Judge>(
     bytes: &[u8],
     judge: &mut J,
 ) -> Result<Outcome, AllocError>
+    requires grammar { IsFrame frame }
     requires bytes { bytes.now ≡ spelling frame }
     ensures step { IfOk result
         (λ o. Tells J.gives (λ asks outs. FrameComes
@@ -101,7 +102,6 @@ fn on_frame<J: Judge>(
     ensures shard { state.new.link.shard ≡ state.old.link.shard }
     ensures refused { IfErr result (λ _. (state.new ≡ state.old) × (judge.new ≡ judge.old)) }
 {
-    frame.known();
     if !is_ours(setting.config, &frame) {
         let outs = noted(setting.alloc, NOT_OURS)?;
         return Ok(Outcome {

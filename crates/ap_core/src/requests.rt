@@ -4,9 +4,9 @@ ghost use Rattle.std.specs.Prelude.{◌≡◌, [], IfOk, IfErr};
 ghost use Rattle.ap_model.specs.Agreements.{RequestComes};
 ghost use Rattle.ap_core.specs.Handles.{reading, ruled_by};
 
-use crate::passing::pass_up;
 use crate::room::FrameRoom;
 use crate::state::{Setting, State};
+use crate::ups::pass_up;
 use ap_agreements::Released;
 use ap_model::Out;
 use mac_frame::{Address, BlockAck, MacFrame, SequenceNumber, Tid};

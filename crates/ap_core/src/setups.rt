@@ -9,9 +9,9 @@ ghost use Rattle.ap_agreements.specs.Tables.{key_of, agreement_in, held_under};
 ghost use Rattle.ap_core.specs.Comes.{HandlesSetup};
 ghost use Rattle.ap_core.specs.Handles.{reading, rules, setup, sender, IsRead, IsGranted, ruled_by};
 
-use crate::passing::pass_replaced;
 use crate::room::{FrameRoom, Room};
 use crate::state::{Came, Setting, State};
+use crate::ups::pass_replaced;
 use ap_agreements::Entry;
 use ap_model::{Judge, Out};
 use bpf_regions::{Context, Hook};

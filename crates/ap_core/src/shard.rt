@@ -70,14 +70,6 @@ impl Shard {
         Shard { state, config }
     }
 
-    /// Proves that the shard has a history, and that its number is below 8; does nothing at run time.
-    pub fn known(&self)
-        ensures history { ∥ History (ruled self.now) (reads self.now) ∥₁ }
-        ensures shard { (ruled self.now).shard < 8 }
-    {
-        let _shard = self.state.link.shard();
-    }
-
     /// The sum of the ticks so far, at most 2^64 - 1.
     pub fn clock(&self) -> u64
         ensures { result ≡ (reads self.now).clock }
@@ -85,12 +77,13 @@ impl Shard {
         self.state.clock
     }
 
-    /// How many stations are associated, at most 2007.
+    /// How many stations are associated, at most 2007. The shard, whose number is below 8, has a history.
     pub fn stations(&self) -> u16
         ensures are { AreAssociated (reads self.now).standing result }
         ensures few { result ≤ 2007 }
+        ensures history { ∥ History (ruled self.now) (reads self.now) ∥₁ }
+        ensures shard { (ruled self.now).shard < 8 }
     {
-        self.state.link.known();
         self.state.link.associated()
     }
 
@@ -140,11 +133,7 @@ impl Shard {
         ensures refused { IfErr result (λ _. (self.new ≡ self.old) × (judge.new ≡ judge.old)) }
     {
         match event {
-            Event::Frame(bytes) => {
-                let bytes = bytes.bytes();
-                let outcome = receive(alloc, &mut self.state, &self.config, bytes, judge)?;
-                Ok(outcome)
-            }
+            Event::Frame(bytes) => self.receive(alloc, bytes.bytes(), judge),
             Event::Tick(units) => {
                 let outs = self.on_tick(alloc, *units)?;
                 Ok(Outcome {
@@ -167,6 +156,22 @@ impl Shard {
                 })
             }
         }
+    }
+
+    /// Receives bytes that the caller keeps, as `handle_with_drop` handles the event of such a frame.
+    pub fn receive<J: Judge>(
+        &mut self,
+        alloc: Global,
+        bytes: &[u8],
+        judge: &mut J,
+    ) -> Result<Outcome, AllocError>
+        ensures step { IfOk result (λ o. Decides J.gives self.old (Event.Frame bytes.now) judge.old
+            o.outs.items o.dropped self.new judge.new) }
+        ensures rules { ruled self.new ≡ ruled self.old }
+        ensures refused { IfErr result (λ _. (self.new ≡ self.old) × (judge.new ≡ judge.old)) }
+    {
+        let outcome = receive(alloc, &mut self.state, &self.config, bytes, judge)?;
+        Ok(outcome)
     }
 
     /// Allocates the memory for a tick, except its outputs.

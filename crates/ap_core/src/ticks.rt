@@ -8,9 +8,9 @@ ghost use Rattle.ap_model.specs.Steps.{Ticks};
 ghost use Rattle.ap_core.specs.Handles.{reading, rules, ruled_by};
 ghost use Rattle.ap_core.specs.Ticking.{clock_after, late_outs, outs_of_ends, HasRoom, EndsOne, EndsAll, TickStep};
 
-use crate::passing::pass_all;
 use crate::room::FrameRoom;
 use crate::state::{Setting, State};
+use crate::ups::pass_all;
 use ap_agreements::Entry;
 use ap_model::{LinkConfig, Out};
 use mac_frame::{MacFrame, Reason};

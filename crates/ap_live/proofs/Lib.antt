@@ -2,6 +2,7 @@ pub mod Sums
 pub mod Growing
 pub mod Going
 pub mod Keeping
+pub mod Newcomers
 pub mod AtShards
 pub mod Handing
 pub mod Upheld

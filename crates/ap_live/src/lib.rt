@@ -20,12 +20,11 @@
 
 mod actions;
 mod gate;
-mod laws;
 mod listings;
 mod live;
 mod maps;
 mod meetings;
-mod opening;
+mod opened;
 mod service;
 mod submission;
 mod tagged;
@@ -35,8 +34,7 @@ pub use ap_core::{AgreementInForce, Known, KnownStation};
 pub use ap_queues::Item;
 pub use ap_shards::Fate;
 pub use gate::{Gate, OpenGate};
-pub use laws::tokens_law;
 pub use live::{LiveAp, Settings};
-pub use opening::Opened;
+pub use opened::Opened;
 pub use tagged::Tagged;
 pub use tokens::{LeftTokens, OperatorToken, WorkerToken};

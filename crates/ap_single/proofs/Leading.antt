@@ -33,6 +33,9 @@ tail_is x y xs ys = λ (same : x ∷ xs ≡ y ∷ ys). cc
 head_is : {A : Type 0} (x y : A) (xs ys : List A) → x ∷ xs ≡ y ∷ ys → x ≡ y
 head_is x y xs ys = λ (same : x ∷ xs ≡ y ∷ ys). cc
 
+pub some_is : {A : Type 0} (x y : A) → Some x ≡ Some y → x ≡ y
+some_is x y = λ (same : Some x ≡ Some y). cc
+
 pub as_many : {es : List Event} {rs : List (Option (List Out))} {ts : List Turn} → AreTurns es rs ts → length rs ≡ length es
 as_many no_event = refl
 as_many (refused e es rs ts t) = ap suc (as_many t)

@@ -3,15 +3,17 @@
 ghost use Rattle.std.specs.Prelude.{◌≡◌, map, None, IfOk, IfSome};
 ghost use Rattle.std.specs.Option.{option_map};
 ghost use Rattle.bpf_helpers.specs.Hooked.{IsFitting, shapes_of};
+ghost use Rattle.ap_model.specs.declared.event.Event.{Event};
 ghost use Rattle.ap_core.specs.Shards.{reads};
 ghost use Rattle.ap_core.specs.AccessPoints.{AreFresh};
 ghost use Rattle.ap_core.specs.Listing.{Joins, ListsAgreements, ListsStations, MergesAgreements, MergesStations};
 ghost use Rattle.program_judge.specs.Programs.{IsFor, no_programs, replaced};
 ghost use Rattle.ap_single.specs.Leading.{IsLike, Leads};
 
-use crate::handling::view_at;
+use crate::views::{view_at, view_in};
 use ap_core::{
     AgreementInForce, Event, KnownStation, LinkConfig, Out, Shard, handle_one, new_shards,
+    receive_one, shard_of_bytes,
 };
 use bpf_helpers::{MapTables, WorkerState};
 use bpf_machine::Accepted;
@@ -130,5 +132,26 @@ impl AccessPoint {
         let view = view_at(&self.shards, &event, maps);
         let mut judge = ProgramJudge::new(&self.programs, view, state);
         handle_one(alloc, &mut self.shards, &event, &mut judge)
+    }
+
+    /// Receives bytes that the caller keeps, as `handle` handles the event of such a frame.
+    #[tactic(auto, using(program_judge::proofs::Judging::judged))]
+    pub fn receive(
+        &mut self,
+        alloc: Global,
+        bytes: &[u8],
+        maps: &[MapTables],
+        state: &mut WorkerState,
+    ) -> Option<Vec<Out>>
+        requires for_maps { self.old.programs.shapes ≡ shapes_of maps.now }
+        requires fitting { IsFitting maps.now 0 state.old.seats }
+        ensures led { Leads self.old (Event.Frame bytes.now) maps.now state.old
+            (option_map (λ outs. outs.items) result) self.new state.new }
+        ensures refused { result ≡ None → IsLike self.old self.new × (state.new ≡ state.old) }
+        ensures fitting { IsFitting maps.now 0 state.new.seats }
+    {
+        let view = view_in(&self.shards, shard_of_bytes(bytes), maps);
+        let mut judge = ProgramJudge::new(&self.programs, view, state);
+        receive_one(alloc, &mut self.shards, bytes, &mut judge)
     }
 }

@@ -1,8 +1,11 @@
 -- Events at access points that C keeps.
 use Rattle.std.specs.Prelude.{◌≡◌, ◌≢◌, ◌≤◌, ◌<◌, ℕ, List, length, Option, Some}
 use Rattle.ap_model.specs.declared.event.Event.{Event}
+use Rattle.ap_model.specs.declared.event.Event.TheVariants as event
 use Rattle.ap_model.specs.declared.event.Out.{Out}
 use Rattle.ap_single.specs.Leading.{Parts, IsLike, Leads}
+use Rattle.apd_c.specs.declared.events.Happening.{Happening}
+use Rattle.apd_c.specs.declared.events.Happening.TheVariants as happening
 use Rattle.apd_c.specs.declared.handle.Content.{Content}
 use Rattle.apd_c.specs.declared.handle.Content.TheVariants as content
 use Rattle.apd_c.specs.declared.maps.Maps.{Maps}
@@ -10,6 +13,11 @@ use Rattle.apd_c.specs.Answers.{IsDone, Perhaps, Unless, UnlessNone, UnlessSome}
 use Rattle.apd_c.specs.Link.{link_of}
 use Rattle.apd_c.specs.Outs.{outs_of, user_of}
 use Rattle.apd_c.specs.Words.{maps_of}
+
+-- the event
+abbrev pub event_of : Happening → Event
+event_of (happening.Frame bytes) = event.Frame bytes.now
+event_of (happening.Other other) = other
 
 -- the maps are the same
 pub record IsSame (m m' : Maps) : Type 0 where
@@ -67,9 +75,9 @@ IsNumberAt link maps = UnlessSome (maps_of maps) 91 (λ m. UnlessSome (link_of l
 abbrev pub IsEventNumber : Option Content → Option Content → Option Content → ℕ → Type 0
 IsEventNumber link maps outs = UnlessNone outs 92 (Perhaps 40 (IsNumberAt link maps))
 
--- The number of a frame: 90 exactly if it is longer than 2400 bytes; otherwise perhaps 40; otherwise that of the event.
+-- The number of a frame: 90 exactly if it is longer than 2400 bytes; otherwise that of the event.
 abbrev pub IsFrameNumber : List ℕ → Option Content → Option Content → Option Content → ℕ → Type 0
-IsFrameNumber bytes link maps outs = Unless (length bytes ≤ 2400) 90 (Perhaps 40 (IsEventNumber link maps outs))
+IsFrameNumber bytes link maps outs = Unless (length bytes ≤ 2400) 90 (IsEventNumber link maps outs)
 
 -- The number of ending an agreement: 90 exactly if the TID isn't below 8; otherwise that of the event.
 abbrev pub IsCloseNumber : ℕ → Option Content → Option Content → Option Content → ℕ → Type 0

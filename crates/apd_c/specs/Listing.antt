@@ -8,10 +8,10 @@ use Rattle.ap_core.specs.Shards.{reads}
 use Rattle.ap_single.specs.Leading.{Parts}
 use Rattle.apd_c.specs.declared.handle.Content.{Content}
 use Rattle.apd_c.specs.declared.handle.Content.TheVariants as content
-use Rattle.apd_c.specs.declared.listing.AgreementRow.{AgreementRow}
-use Rattle.apd_c.specs.declared.listing.Rows.{Rows}
-use Rattle.apd_c.specs.declared.listing.Rows.TheVariants as kind
-use Rattle.apd_c.specs.declared.listing.StationRow.{StationRow}
+use Rattle.apd_c.specs.declared.rows.AgreementRow.{AgreementRow}
+use Rattle.apd_c.specs.declared.rows.Rows.{Rows}
+use Rattle.apd_c.specs.declared.rows.Rows.TheVariants as kind
+use Rattle.apd_c.specs.declared.rows.StationRow.{StationRow}
 use Rattle.apd_c.specs.Answers.{IsDone, Perhaps, UnlessNone, UnlessSome}
 use Rattle.apd_c.specs.Link.{link_of}
 use Rattle.apd_c.specs.Outs.{nowhere}

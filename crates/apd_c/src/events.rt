@@ -1,11 +1,13 @@
 //! Events at access points that C keeps.
 
-ghost use Rattle.std.specs.Prelude.{◌≡◌, ◌≢◌, Some, IfOk, IfErr, OnErr};
+ghost use Rattle.std.specs.Prelude.{◌≡◌, ◌≢◌, Some, None, IfOk, IfErr, OnErr};
+ghost use Rattle.std.specs.Option.{option_map};
+ghost use Rattle.bpf_helpers.specs.Hooked.{IsFitting, shapes_of};
 ghost use Rattle.ap_model.specs.declared.event.Event.TheVariants as event;
-ghost use Rattle.ap_single.specs.Leading.{IsLike};
+ghost use Rattle.ap_single.specs.Leading.{IsLike, Leads};
 ghost use Rattle.apd_c.specs.Held.{held};
 ghost use Rattle.apd_c.specs.Answers.{UnlessSome, number_in};
-ghost use Rattle.apd_c.specs.Events.{HasLed, HasLedTo, IsCloseNumber, IsEventNumber, IsFrameNumber, IsLed, IsNumberAt, IsNumberOver, IsSame, Serves, Stays};
+ghost use Rattle.apd_c.specs.Events.{HasLed, HasLedTo, event_of, IsCloseNumber, IsEventNumber, IsFrameNumber, IsLed, IsNumberAt, IsNumberOver, IsSame, Serves, Stays};
 ghost use Rattle.apd_c.specs.Link.{link_of};
 
 use crate::answer::{NO_MEMORY, NOT_EMPTY, OTHER_MAPS, OTHER_VALUE, OUT_OF_LIMITS};
@@ -13,8 +15,9 @@ use crate::handle::{Content, Handle};
 use crate::maps::Maps;
 use crate::outs::Outputs;
 use crate::runs::are_alike;
-use ap_core::{Event, Octets, Out};
+use ap_core::{Event, Out};
 use ap_single::AccessPoint;
+use bpf_helpers::{MapTables, WorkerState};
 use mac_types::{Address, Reason, Tid};
 use std::alloc::Global;
 use std::mem::forget;
@@ -26,11 +29,40 @@ pub struct Station {
     pub octets: [u8; 6],
 }
 
+/// An event that C gives: the bytes of a frame, which C keeps, or another event.
+#[derive(Drop)]
+pub(crate) enum Happening<'a> {
+    Frame(&'a [u8]),
+    Other(Event),
+}
+
 /// An event, and the number that its caller gives it.
 #[derive(Drop)]
-struct UserEvent {
-    event: Event,
+struct UserEvent<'a> {
+    event: Happening<'a>,
     user: u64,
+}
+
+/// Gives an event to an access point, as `AccessPoint::handle` says.
+fn give(
+    alloc: Global,
+    access_point: &mut AccessPoint,
+    event: Happening<'_>,
+    maps: &[MapTables],
+    state: &mut WorkerState,
+) -> Option<Vec<Out>>
+    requires for_maps { access_point.old.programs.shapes ≡ shapes_of maps.now }
+    requires fitting { IsFitting maps.now 0 state.old.seats }
+    ensures led { Leads access_point.old (event_of event.entry) maps.now state.old
+        (option_map (λ outs. outs.items) result) access_point.new state.new }
+    ensures refused { result ≡ None →
+        IsLike access_point.old access_point.new × (state.new ≡ state.old) }
+    ensures fitting { IsFitting maps.now 0 state.new.seats }
+{
+    match event {
+        Happening::Frame(bytes) => access_point.receive(alloc, bytes, maps, state),
+        Happening::Other(event) => access_point.handle(alloc, event, maps, state),
+    }
 }
 
 /// Handles an event, with verdicts over these maps.
@@ -38,10 +70,10 @@ fn lead(
     alloc: Global,
     access_point: &mut AccessPoint,
     maps: &mut Maps,
-    event: Event,
+    event: Happening<'_>,
 ) -> Result<Vec<Out>, u32>
     ensures ok { IfOk result (λ outs.
-        IsLed access_point.old maps.old event outs.items access_point.new maps.new) }
+        IsLed access_point.old maps.old (event_of event.entry) outs.items access_point.new maps.new) }
     ensures err { IfErr result (λ number. number ≢ 0) }
     ensures kept { OnErr result (IsLike access_point.old access_point.new
         × IsSame maps.old maps.new) }
@@ -50,7 +82,8 @@ fn lead(
     if !are_alike(access_point.shapes().as_slice(), maps.shapes.as_slice()) {
         return Err(OTHER_MAPS);
     }
-    match access_point.handle(alloc, event, maps.tables.maps(), &mut maps.state) {
+    let tables = maps.tables.maps();
+    match give(alloc, access_point, event, tables, &mut maps.state) {
         None => Err(NO_MEMORY),
         Some(outs) => Ok(outs),
     }
@@ -61,10 +94,11 @@ fn lead_in(
     alloc: Global,
     content: &mut Content,
     maps: &mut Maps,
-    event: Event,
+    event: Happening<'_>,
 ) -> Result<Vec<Out>, u32>
     ensures ok { IfOk result (λ outs.
-        HasLed (Some content.old) maps.old event outs.items (Some content.new) maps.new) }
+        HasLed (Some content.old) maps.old (event_of event.entry) outs.items (Some content.new)
+        maps.new) }
     ensures err { IfErr result (λ number. number ≢ 0) }
     ensures kept { OnErr result (Stays (Some content.old) (Some content.new)
         × IsSame maps.old maps.new) }
@@ -78,9 +112,14 @@ fn lead_in(
 }
 
 /// The same if a handle holds an access point.
-fn lead_at(alloc: Global, link: &mut Handle, maps: &mut Maps, event: Event) -> Result<Vec<Out>, u32>
+fn lead_at(
+    alloc: Global,
+    link: &mut Handle,
+    maps: &mut Maps,
+    event: Happening<'_>,
+) -> Result<Vec<Out>, u32>
     ensures ok { IfOk result (λ outs.
-        HasLed (held link.old) maps.old event outs.items (held link.new) maps.new) }
+        HasLed (held link.old) maps.old (event_of event.entry) outs.items (held link.new) maps.new) }
     ensures err { IfErr result (λ number. number ≢ 0) }
     ensures kept { OnErr result
         (Stays (held link.old) (held link.new) × IsSame maps.old maps.new) }
@@ -98,10 +137,10 @@ fn lead_on(
     alloc: Global,
     link: &mut Handle,
     content: &mut Content,
-    event: Event,
+    event: Happening<'_>,
 ) -> Result<Vec<Out>, u32>
-    ensures ok { IfOk result (λ outs. HasLedTo event (held link.old) (Some content.old) outs.items
-        (held link.new) (Some content.new)) }
+    ensures ok { IfOk result (λ outs. HasLedTo (event_of event.entry) (held link.old)
+        (Some content.old) outs.items (held link.new) (Some content.new)) }
     ensures err { IfErr result (λ number. number ≢ 0) }
     ensures kept { OnErr result (Stays (held link.old) (held link.new)
         × Stays (Some content.old) (Some content.new)) }
@@ -118,10 +157,11 @@ fn lead_over(
     alloc: Global,
     link: &mut Handle,
     maps: &mut Handle,
-    event: Event,
+    event: Happening<'_>,
 ) -> Result<Vec<Out>, u32>
     ensures ok { IfOk result (λ outs.
-        HasLedTo event (held link.old) (held maps.old) outs.items (held link.new) (held maps.new)) }
+        HasLedTo (event_of event.entry) (held link.old) (held maps.old) outs.items
+        (held link.new) (held maps.new)) }
     ensures err { IfErr result (λ number. number ≢ 0) }
     ensures kept { OnErr result
         (Stays (held link.old) (held link.new) × Stays (held maps.old) (held maps.new)) }
@@ -139,10 +179,10 @@ fn lead_to(
     link: &mut Handle,
     maps: &mut Handle,
     outs: &mut Handle,
-    given: UserEvent,
+    given: UserEvent<'_>,
 ) -> u32
-    ensures serves { Serves given.event given.user (held link.old) (held maps.old)
-        (held outs.old) result
+    ensures serves { Serves (event_of given.entry.event) given.entry.user (held link.old)
+        (held maps.old) (held outs.old) result
         (held link.new) (held maps.new) (held outs.new) }
     ensures number { IsEventNumber (held link.old) (held maps.old) (held outs.old) result }
 {
@@ -188,16 +228,11 @@ pub extern "C" fn apd_c_link_frame(
     if bytes.len() > 2400 {
         return OUT_OF_LIMITS;
     }
-    match Octets::copy(alloc, bytes) {
-        Err(_) => NO_MEMORY,
-        Ok(octets) => {
-            let given = UserEvent {
-                event: Event::Frame(octets),
-                user,
-            };
-            lead_to(alloc, link, maps, outs, given)
-        }
-    }
+    let given = UserEvent {
+        event: Happening::Frame(bytes),
+        user,
+    };
+    lead_to(alloc, link, maps, outs, given)
 }
 
 /// `units` units of time pass at all eight shards, or at none. The rest is as for `apd_c_link_frame`.
@@ -216,7 +251,7 @@ pub extern "C" fn apd_c_link_tick(
     ensures number { IsEventNumber (held link.old) (held maps.old) (held outs.old) result }
 {
     let given = UserEvent {
-        event: Event::Tick(units),
+        event: Happening::Other(Event::Tick(units)),
         user,
     };
     lead_to(alloc, link, maps, outs, given)
@@ -242,7 +277,11 @@ pub extern "C" fn apd_c_link_kick(
         station: Address::new(station.octets),
         reason: Reason::new(reason),
     };
-    lead_to(alloc, link, maps, outs, UserEvent { event, user })
+    let given = UserEvent {
+        event: Happening::Other(event),
+        user,
+    };
+    lead_to(alloc, link, maps, outs, given)
 }
 
 /// The operator ends a station's agreement for a TID below 8. 90: the TID isn't below 8. The rest is as for
@@ -269,5 +308,9 @@ pub extern "C" fn apd_c_link_close(
         station: Address::new(station.octets),
         tid,
     };
-    lead_to(alloc, link, maps, outs, UserEvent { event, user })
+    let given = UserEvent {
+        event: Happening::Other(event),
+        user,
+    };
+    lead_to(alloc, link, maps, outs, given)
 }

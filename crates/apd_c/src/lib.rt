@@ -12,18 +12,18 @@ mod atomics;
 mod call_port;
 mod certificates;
 mod code;
-mod crossing;
 mod events;
-mod explained;
 mod handle;
-mod keeping;
+mod handle_contents;
+mod laws;
 mod link;
-mod listing;
 mod loads;
 mod loose;
 mod maps;
 mod outs;
+mod rows;
 mod runs;
+mod sentences;
 mod shapes;
 mod why;
 mod words;
@@ -35,19 +35,19 @@ pub use atomics::{
 };
 pub use certificates::{apd_c_certify, apd_c_check, apd_c_check_within, apd_c_read};
 pub use code::{apd_c_budget, apd_c_verify, apd_c_verify_limited, apd_c_verify_within};
-pub use crossing::handles_law;
 pub use events::{Station, apd_c_link_close, apd_c_link_frame, apd_c_link_kick, apd_c_link_tick};
-pub use explained::apd_c_explain;
 pub use handle::Handle;
-pub use keeping::apd_c_free;
+pub use handle_contents::apd_c_free;
+pub use laws::handles_law;
 pub use link::{Network, apd_c_link};
-pub use listing::{
+pub use loads::{apd_c_link_load, apd_c_link_unload};
+pub use outs::{OutHead, apd_c_out, apd_c_out_bytes, apd_c_outs};
+pub use rows::{
     AgreementRow, StationRow, apd_c_agreement, apd_c_agreements, apd_c_link_agreements,
     apd_c_link_stations, apd_c_station, apd_c_stations,
 };
-pub use loads::{apd_c_link_load, apd_c_link_unload};
-pub use outs::{OutHead, apd_c_out, apd_c_out_bytes, apd_c_outs};
 pub use runs::{Given, Report, apd_c_run};
+pub use sentences::apd_c_explain;
 pub use shapes::MapShape;
 pub use why::apd_c_why;
 pub use words::{Loaded, apd_c_load, apd_c_maps, apd_c_store};

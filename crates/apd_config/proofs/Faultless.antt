@@ -1,5 +1,5 @@
--- A configuration has no fault.
-use Rattle.std.proofs.Common.{◌≡◌, ◌≢◌, ℕ, zero, suc, ◌&&◌, Bool, true, false, true≢false, List, [], ◌∷◌, Option, Some, None, option_and_then, codes, refl, sym, ap, ap₂, ◌∙◌, subst, arith}
+-- The text of a configuration has no fault, and no other configuration has the text.
+use Rattle.std.proofs.Common.{◌≡◌, ◌≢◌, ℕ, zero, suc, ◌&&◌, Bool, true, false, true≢false, List, [], ◌∷◌, Option, Some, None, option_and_then, codes, Result, Ok, Err, IfOk, IfErr, MatchResult, refl, sym, ap, ap₂, ◌∙◌, subst, arith}
 use Rattle.std.specs.List.{list_all}
 use Rattle.std.proofs.lemmas.Bool.{le-leb}
 use Rattle.std.proofs.lemmas.List.Folds.{list_all_at}
@@ -13,7 +13,7 @@ use Rattle.apd_config.specs.declared.keys.MapKey.TheVariants as in_map
 use Rattle.apd_config.specs.declared.fault.ConfigFault.{ConfigFault}
 use Rattle.apd_config.specs.declared.fault.ConfigFault.TheVariants as fault
 use Rattle.apd_config.specs.Meaning.{bssid_of, ssid_of, rates_of, draw_of, count_of, width_of, scope_of, scope_or_shared, keys_in, is_key, is_map_key, SaysShape, SaysMap, SaysShapes, SaysMaps}
-use Rattle.apd_config.specs.Text.{IsTextOf, Says, HasUnknownKey, TellsOfMap, TellsOfSomeMap, Tells, TellsOfText, is_table, are_tables, are_maps, count_items}
+use Rattle.apd_config.specs.Text.{AreAlike, IsTextOf, Says, HasUnknownKey, TellsOfMap, TellsOfSomeMap, Tells, TellsOfText, is_table, are_tables, are_maps, count_items}
 use Rattle.apd_config.proofs.MapLemmas.{length-says}
 
 known_keys : (p : List ℕ → Bool) (t : Members) (text : List ℕ) → list_all p (keys_in t) ≡ true → HasUnknownKey t p text → ⊥
@@ -129,3 +129,74 @@ is_faultless text c (fault.Value key) is h other = same_tables text c (fault.Val
 is_faultless text c (fault.UnknownMapKey k key) is h other = same_tables text c (fault.UnknownMapKey k key) h.0 is h.1 h.2 other
 is_faultless text c (fault.MissingInMap k key) is h other = same_tables text c (fault.MissingInMap k key) h.0 is h.1 h.2 other
 is_faultless text c (fault.ValueInMap k key) is h other = same_tables text c (fault.ValueInMap k key) h.0 is h.1 h.2 other
+
+-- ---- one configuration
+
+says_one_value : {X : Type 0} (o : Option X) (x y : X) → o ≡ Some x → o ≡ Some y → x ≡ y
+says_one_value o x y is other = same_Some _ _ (sym is ∙ other)
+
+says_one_shape : (m : Members) (s u : Shape) → SaysShape m s → SaysShape m u → s ≡ u
+says_one_shape m s u is other =
+    let entries = says_one_value _ _ _ is.entries other.entries in
+    let words = says_one_value _ _ _ is.words other.words in
+    let width = says_one_value _ _ _ is.width other.width in
+    let scope = says_one_value _ _ _ is.scope other.scope in
+    rw (entries, words, width, scope) refl
+
+says_one_map : (d : Data) (s u : Shape) → SaysMap d s → SaysMap d u → s ≡ u
+says_one_map (string text) s u is other = absurd is
+says_one_map (integer z) s u is other = absurd is
+says_one_map (float x) s u is other = absurd is
+says_one_map (boolean b) s u is other = absurd is
+says_one_map (datetime t) s u is other = absurd is
+says_one_map (array ds) s u is other = absurd is
+says_one_map (table m) s u is other = says_one_shape m s u is other
+
+says_one_list : (ds : Items) (ss us : List Shape) → SaysShapes ds ss → SaysShapes ds us → ss ≡ us
+says_one_list no_items [] [] is other = refl
+says_one_list no_items (s ∷ ss) us is other = absurd is
+says_one_list no_items [] (u ∷ us) is other = absurd other
+says_one_list (item d ds) [] us is other = absurd is
+says_one_list (item d ds) (s ∷ ss) [] is other = absurd other
+says_one_list (item d ds) (s ∷ ss) (u ∷ us) is other = ap₂ ◌∷◌ (says_one_map d s u is.0 other.0) (says_one_list ds ss us is.1 other.1)
+
+says_same_maps : (o : Option Data) (ss us : List Shape) → SaysMaps o ss → SaysMaps o us → ss ≡ us
+says_same_maps None ss us is other = is ∙ sym other
+says_same_maps (Some (string text)) ss us is other = absurd is
+says_same_maps (Some (integer z)) ss us is other = absurd is
+says_same_maps (Some (float x)) ss us is other = absurd is
+says_same_maps (Some (boolean b)) ss us is other = absurd is
+says_same_maps (Some (datetime t)) ss us is other = absurd is
+says_same_maps (Some (array ds)) ss us is other = says_one_list ds ss us is.1 other.1
+says_same_maps (Some (table m)) ss us is other = absurd is
+
+says_alike : (t : Members) (c d : Configuration) → Says t c → Says t d → AreAlike c d
+says_alike t c d is other = record {
+  bssid = says_one_value _ _ _ is.bssid other.bssid;
+  ssid = says_one_value _ _ _ is.ssid other.ssid;
+  rates = says_one_value _ _ _ is.rates other.rates;
+  draw = says_one_value _ _ _ is.draw other.draw;
+  maps = says_same_maps _ _ _ is.maps other.maps;
+}
+
+texts_alike : (text : List ℕ) (c d : Configuration) → IsTextOf text c → IsTextOf text d → AreAlike c d
+texts_alike text c d is other =
+    let same : other.tables ≡ is.tables = same_Some _ _ (sym other.parsed ∙ is.parsed) in
+    let P : Members → Type 0 = λ t. Says t d in
+    says_alike is.tables c d is.says (subst P same other.says)
+
+only_memory : (f : ConfigFault) → (f ≢ fault.NoMemory → ⊥) → f ≡ fault.NoMemory
+only_memory fault.Encoding h = absurd (h (λ e. cc))
+only_memory (fault.Syntax message) h = absurd (h (λ e. cc))
+only_memory (fault.UnknownKey key) h = absurd (h (λ e. cc))
+only_memory (fault.Missing key) h = absurd (h (λ e. cc))
+only_memory (fault.Value key) h = absurd (h (λ e. cc))
+only_memory (fault.UnknownMapKey k key) h = absurd (h (λ e. cc))
+only_memory (fault.MissingInMap k key) h = absurd (h (λ e. cc))
+only_memory (fault.ValueInMap k key) h = absurd (h (λ e. cc))
+only_memory fault.NoMemory h = refl
+
+-- what a text is read as, if it is a configuration's
+pub only_this : (r : Result Configuration ConfigFault) (text : List ℕ) → IfOk r (IsTextOf text) → IfErr r (TellsOfText text) → (c : Configuration) → IsTextOf text c → MatchResult r (AreAlike c) (λ f. f ≡ fault.NoMemory)
+only_this (Ok d) text read faulty c is = texts_alike text c d is read
+only_this (Err f) text read faulty c is = only_memory f (is_faultless text c f is faulty)

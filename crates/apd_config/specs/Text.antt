@@ -31,6 +31,14 @@ pub record IsTextOf (text : List ℕ) (c : Configuration) : Type 0 where
   pub parsed : parse_document text ≡ Some tables
   pub says : Says tables c
 
+-- two configurations with the same values, wherever their lists lie in memory
+pub record AreAlike (c d : Configuration) : Type 0 where
+  pub bssid : c.bssid ≡ d.bssid
+  pub ssid : c.ssid.items ≡ d.ssid.items
+  pub rates : c.rates.items ≡ d.rates.items
+  pub draw : c.draw ≡ d.draw
+  pub maps : c.maps ≡ d.maps
+
 -- ---- faults
 
 -- the data is a table

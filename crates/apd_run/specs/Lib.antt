@@ -9,6 +9,7 @@ pub mod Deciding
 pub mod Words
 pub mod Work
 pub mod Hands
+pub mod Operators
 pub mod Returning
 pub mod NewRuns
 pub mod Captured

@@ -119,19 +119,14 @@ impl Link {
         self.stations.len() >= KNOWN_STATIONS
     }
 
-    /// How many stations are associated.
+    /// How many stations are associated. The identifiers are held exactly as the standings say, each once.
     pub fn associated(&self) -> u16
-        ensures { result ≡ associated_count self.now }
-    {
-        self.holders.count()
-    }
-
-    /// Gives proofs that the identifiers are held exactly as the standings say, each once; does nothing.
-    pub fn known(&self)
+        ensures is { result ≡ associated_count self.now }
         ensures holds { HoldsAsTheyStand self.now }
         ensures once { NoneTwice (standing self.now) }
+        ensures shard { self.now.shard < 8 }
     {
-        let _ = &self.shard;
+        self.holders.count()
     }
 
     /// The station is disassociated (IEEE 802.11-2016, 11.3.5.8): an associated one goes to State 2,

@@ -1,8 +1,8 @@
 //! How long `verify`, `certificate` and `check` take for the program in a file, and how long its certificate is.
 
 use crate::asked::Asked;
+use crate::clock::{nanos_since, now};
 use crate::programs::verified;
-use crate::timing::{nanos_since, now};
 use apd_config::read_configuration;
 use bpf_cert::{certificate, check};
 use bpf_decode::{Program, decode};

@@ -1,8 +1,8 @@
 //! How long `parse` takes for a data frame of 1500 bytes and for an association request.
 
 use crate::asked::Asked;
+use crate::clock::{now, print_since};
 use crate::stations::{data, joining};
-use crate::timing::{now, print_since};
 use mac_frame::parse;
 use std::alloc::Global;
 use std::rt::Clock;

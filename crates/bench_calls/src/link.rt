@@ -2,8 +2,8 @@
 //! 500 stations in agreements alternating, 250 in each of two shards; and how long a copy of the frame takes.
 
 use crate::asked::Asked;
+use crate::clock::{now, print_since};
 use crate::stations::{config, data, event, joining};
-use crate::timing::{now, print_since};
 use ap_core::{Event, ListJudge, Octets, Out, Shard};
 use std::alloc::Global;
 use std::rt::Clock;

@@ -3,8 +3,8 @@
 //! executed, which isn't read. `bench/peers/workloads.py` writes some.
 
 use crate::asked::Asked;
+use crate::clock::{Work, least, print_each};
 use crate::programs::{of_code, verified};
-use crate::timing::{Work, least, print_each};
 use bpf_machine::probing::probe;
 use bpf_machine::{Accepted, Bare, ListPort, Probe, run};
 use bpf_regions::{Context, Frame};

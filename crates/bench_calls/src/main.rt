@@ -26,16 +26,16 @@
 
 mod asked;
 mod certificates;
+mod clock;
 mod frames;
-mod judged;
+mod judges;
 mod link;
 mod machine;
 mod policies;
 mod programs;
-mod replaced;
+mod sets;
 mod stations;
 mod text;
-mod timing;
 mod windows;
 
 use asked::Asked;
@@ -72,11 +72,11 @@ fn perform<R: Threads + Wait + Runtime + Sync + AllocGlobal>(
         "loop" | "joins" => programs::print_times(rt, alloc, name, asked),
         "certificates" => certificates::print_times(rt, alloc, asked),
         "machine" => machine::print_times(rt, alloc, asked),
-        "versions" => replaced::print_times(rt, alloc, asked),
+        "versions" => sets::print_times(rt, alloc, asked),
         "frames" => frames::print_times(rt, alloc, asked),
         "windows" => Some(windows::print_times(rt, asked)),
         "link" => link::print_times(rt, alloc, asked),
-        "judge" => judged::print_times(rt, alloc, asked),
+        "judge" => judges::print_times(rt, alloc, asked),
         _ => None,
     }
 }

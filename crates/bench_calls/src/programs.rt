@@ -4,7 +4,7 @@ ghost use Rattle.std.specs.Prelude.{◌≡◌, IfSome};
 ghost use Rattle.bpf_regions.specs.declared.hooks.Hook.TheVariants.{Data};
 
 use crate::asked::Asked;
-use crate::timing::{nanos_since, now, print_since};
+use crate::clock::{nanos_since, now, print_since};
 use bpf_decode::{Program, decode};
 use bpf_machine::Accepted;
 use bpf_regions::{Hook, Shapes};

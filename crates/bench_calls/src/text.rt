@@ -1,7 +1,7 @@
 //! How long it takes to assemble 16384 lines, decode them and write them as text again.
 
+use crate::clock::{now, print_since};
 use crate::programs::of_code;
-use crate::timing::{now, print_since};
 use bpf_text::{assemble, disassemble};
 use std::alloc::{AllocError, Global};
 use std::rt::Clock;

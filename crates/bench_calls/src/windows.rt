@@ -3,7 +3,7 @@
 ghost use Rattle.std.specs.Prelude.{◌<◌};
 
 use crate::asked::Asked;
-use crate::timing::{now, print_since};
+use crate::clock::{now, print_since};
 use arrayvec::ArrayVec;
 use blockack::Agreement;
 use std::rt::Clock;

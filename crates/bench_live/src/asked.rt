@@ -1,8 +1,9 @@
 //! What the command line's words request.
 
-/// The words after a benchmark's name, and whether it is to be small.
+/// A benchmark's name, the words after it, and whether it is to be small.
 #[derive(Clone, Copy)]
 pub struct Asked<'w> {
+    pub name: &'w str,
     pub words: &'w [String],
     pub is_quick: bool,
 }

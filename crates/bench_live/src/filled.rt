@@ -12,15 +12,14 @@
 //! The thread that fills the queues sleeps while they are served, for at least a millisecond, so that it takes no
 //! processor from a worker.
 
-use crate::programs::{POLICIES, put_in_force};
+use crate::clock::{nanos_since, now, rate};
+use crate::programs::Case;
 use crate::returned::Returned;
-use crate::stations::{event, join_all};
-use crate::timing::{nanos_since, now, rate};
+use crate::stations::{begin, event, play_case};
 use ap_books::Ledgers;
 use ap_live::OpenGate;
 use ap_locked::Journals;
-use bpf_regions::WordWidth;
-use live_scenes::{Chief, Hand, Scene, Story, play, settings};
+use live_scenes::{Chief, Hand, Scene, Story};
 use std::alloc::Global;
 use std::rt::Clock;
 use std::sync::Wait;
@@ -28,7 +27,6 @@ use std::sync::atomic::AtomicU64;
 use std::sync::atomic::Ordering::SeqCst;
 use std::thread::{Threads, sleep, yield_now};
 use std::time::Duration;
-use versions::Publisher;
 
 /// How many events a queue holds.
 const ROOM: u64 = 256;
@@ -73,11 +71,11 @@ fn await_asleep<R: Wait + Clock>(rt: &R, sign: &AtomicU64, far: u64) {
 }
 
 impl Filled {
-    fn new(alloc: Global, workers: u32, rounds: u64, text: &'static str) -> Filled {
+    fn new(alloc: Global, case: Case) -> Filled {
         Filled {
-            text,
-            workers: u64::from(workers),
-            rounds,
+            text: case.text,
+            workers: u64::from(case.workers),
+            rounds: case.count,
             filled: AtomicU64::new(0),
             met: AtomicU64::new(0),
             ended: AtomicU64::new(0),
@@ -129,14 +127,8 @@ impl Filled {
 }
 
 impl<R: Wait + Clock> Story<R> for Filled {
-    fn prepare<B: Ledgers + Journals>(
-        &mut self,
-        rt: &R,
-        alloc: Global,
-        scene: &mut Scene<'_, B>,
-        publisher: &mut Publisher,
-    ) {
-        if !put_in_force(rt, alloc, publisher, self.text) || !join_all(rt, alloc, scene) {
+    fn prepare<B: Ledgers + Journals>(&mut self, rt: &R, alloc: Global, scene: &mut Scene<'_, B>) {
+        if !begin(rt, alloc, scene, self.text) {
             self.rounds = 0;
         }
     }
@@ -169,36 +161,19 @@ impl<R: Wait + Clock> Story<R> for Filled {
 }
 
 /// Measures so many rounds of so many workers under a program, and prints the rates. None if an allocation fails.
-fn report<R: Threads + Wait + Clock + Eprint + Sync>(
+pub fn report<R: Threads + Wait + Clock + Eprint + Sync>(
     rt: &R,
     alloc: Global,
-    workers: u32,
-    rounds: u64,
-    policy: (&str, &'static str),
+    case: Case,
 ) -> Option<()> {
-    let (name, text) = policy;
-    let settings = settings(alloc, workers, WordWidth::Eight)?;
-    let mut filled = Filled::new(alloc, workers, rounds, text);
-    play(rt, alloc, settings, 1, &mut filled)?;
+    let mut filled = Filled::new(alloc, case);
+    play_case(rt, alloc, case.workers, &mut filled)?;
+    let (workers, name) = (case.workers, case.name);
     let served = filled.served.load(SeqCst);
     let _ = eprintln!(rt;
         "workers {workers}, {name}, filled: {} events a second, {} with the wait for the slowest, of {served}",
         filled.own.load(SeqCst),
         rate(served, filled.nanos.load(SeqCst))
     );
-    Some(())
-}
-
-/// Prints the rates of so many rounds under each program and by 1, 2 and 4 workers. None if an allocation fails.
-pub fn print_rates<R: Threads + Wait + Clock + Eprint + Sync>(
-    rt: &R,
-    alloc: Global,
-    rounds: u64,
-) -> Option<()> {
-    for policy in &POLICIES {
-        for workers in [1, 2, 4] {
-            report(rt, alloc, workers, rounds, *policy)?;
-        }
-    }
     Some(())
 }

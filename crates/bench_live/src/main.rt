@@ -10,15 +10,16 @@
 #![tactic(auto)]
 
 mod asked;
+mod clock;
 mod filled;
 mod programs;
 mod returned;
 mod soak;
 mod stations;
 mod submitted;
-mod timing;
 
 use asked::Asked;
+use programs::{Case, POLICIES};
 use std::alloc::Global;
 use std::process::ExitCode;
 use std::rt::Clock;
@@ -26,16 +27,42 @@ use std::sync::Wait;
 use std::thread::Threads;
 use std::{env, io};
 
+/// Measures `filled` or `submitted` under each program and by 1, 2 and 4 workers, and prints the rates. None if an
+/// allocation fails.
+fn print_rates<R: Threads + Wait + Clock + Eprint + Sync>(
+    rt: &R,
+    alloc: Global,
+    is_filled: bool,
+    count: u64,
+) -> Option<()> {
+    for policy in &POLICIES {
+        let (name, text) = *policy;
+        for workers in [1, 2, 4] {
+            let case = Case {
+                workers,
+                count,
+                name,
+                text,
+            };
+            if is_filled {
+                filled::report(rt, alloc, case)?;
+            } else {
+                submitted::report(rt, alloc, case)?;
+            }
+        }
+    }
+    Some(())
+}
+
 /// Measures a benchmark, and prints the result. None if there is no such benchmark, or it can't be measured.
 fn perform<R: Threads + Wait + Clock + Eprint + Sync>(
     rt: &R,
     alloc: Global,
-    name: &str,
     asked: Asked<'_>,
 ) -> Option<()> {
-    match name {
-        "filled" => filled::print_rates(rt, alloc, asked.number(0, 1000, 2)),
-        "submitted" => submitted::print_rates(rt, alloc, asked.number(0, 200_000, 2000)),
+    match asked.name {
+        "filled" => print_rates(rt, alloc, true, asked.number(0, 1000, 2)),
+        "submitted" => print_rates(rt, alloc, false, asked.number(0, 200_000, 2000)),
         "soak" => soak::report(rt, alloc, asked.number(0, 1_000_000, 10_000)),
         _ => None,
     }
@@ -49,12 +76,19 @@ fn perform_all<R: Threads + Wait + Clock + Eprint + Sync>(
 ) -> Option<()> {
     let (name, words) = words.split_first()?;
     let is_quick = name.as_str() == "quick";
-    let asked = Asked { words, is_quick };
+    let mut asked = Asked {
+        name: name.as_str(),
+        words,
+        is_quick,
+    };
     if !is_quick {
-        return perform(rt, alloc, name.as_str(), asked);
+        return perform(rt, alloc, asked);
     }
-    perform(rt, alloc, "filled", asked)?;
-    perform(rt, alloc, "submitted", asked)
+    for name in ["filled", "submitted"] {
+        asked.name = name;
+        perform(rt, alloc, asked)?;
+    }
+    Some(())
 }
 
 fn main(rt: HostRuntime) -> io::Result<ExitCode> {

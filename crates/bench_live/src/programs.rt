@@ -63,6 +63,15 @@ exit
     ),
 ];
 
+/// How many workers serve how many events, or rounds of them, and under which program: its name and its text.
+#[derive(Clone, Copy)]
+pub struct Case {
+    pub workers: u32,
+    pub count: u64,
+    pub name: &'static str,
+    pub text: &'static str,
+}
+
 /// Publishes the program of a text, if there is one. False if it is refused.
 pub fn put_in_force<R: Wait>(rt: &R, alloc: Global, publisher: &mut Publisher, text: &str) -> bool {
     text.is_empty() || publish(rt, alloc, publisher, text, WordWidth::Eight)

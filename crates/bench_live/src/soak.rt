@@ -1,6 +1,6 @@
 //! The soak of `live_scenes`, of any length.
 
-use crate::timing::{nanos_since, now};
+use crate::clock::{nanos_since, now};
 use ap_books::Totals;
 use bpf_regions::WordWidth;
 use live_scenes::{Found, Soak, play, settings};

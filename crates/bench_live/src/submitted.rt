@@ -1,16 +1,15 @@
 //! One submitter beside the workers. The rate is of all events, in the time from the submitter's start until the last
 //! worker has served all.
 
-use crate::programs::{POLICIES, put_in_force};
+use crate::clock::{nanos_since, now, rate};
+use crate::programs::Case;
 use crate::returned::Returned;
-use crate::stations::{event, join_all};
-use crate::timing::{nanos_since, now, rate};
+use crate::stations::{begin, event, play_case};
 use ap_books::Ledgers;
 use ap_live::{OpenGate, Tagged};
 use ap_locked::Journals;
 use ap_model::Event;
-use bpf_regions::WordWidth;
-use live_scenes::{Chief, Hand, Scene, Story, play, settings};
+use live_scenes::{Chief, Hand, Scene, Story};
 use std::alloc::Global;
 use std::mem;
 use std::rt::Clock;
@@ -19,7 +18,6 @@ use std::sync::atomic::Ordering::SeqCst;
 use std::sync::{Mutex, Wait};
 use std::thread::{Threads, yield_now};
 use std::time::Instant;
-use versions::Publisher;
 
 /// How many events a worker serves before it hands their reports back.
 const MANY: usize = 1024;
@@ -52,10 +50,10 @@ fn events_of(alloc: Global, count: u64) -> Option<Vec<Event>> {
 }
 
 impl Submitted {
-    fn new(alloc: Global, count: u64, text: &'static str, start: Option<Instant>) -> Submitted {
+    fn new(alloc: Global, case: Case, start: Option<Instant>) -> Submitted {
         Submitted {
-            text,
-            count,
+            text: case.text,
+            count: case.count,
             events: Mutex::new(Vec::new(alloc)),
             start,
             begun: AtomicU64::new(0),
@@ -90,14 +88,8 @@ impl Submitted {
 }
 
 impl<R: Wait + Clock> Story<R> for Submitted {
-    fn prepare<B: Ledgers + Journals>(
-        &mut self,
-        rt: &R,
-        alloc: Global,
-        scene: &mut Scene<'_, B>,
-        publisher: &mut Publisher,
-    ) {
-        if !put_in_force(rt, alloc, publisher, self.text) || !join_all(rt, alloc, scene) {
+    fn prepare<B: Ledgers + Journals>(&mut self, rt: &R, alloc: Global, scene: &mut Scene<'_, B>) {
+        if !begin(rt, alloc, scene, self.text) {
             return;
         }
         if let Some(events) = events_of(alloc, self.count) {
@@ -135,17 +127,14 @@ impl<R: Wait + Clock> Story<R> for Submitted {
 }
 
 /// Measures so many events by so many workers under a program, and prints the rate. None if an allocation fails.
-fn report<R: Threads + Wait + Clock + Eprint + Sync>(
+pub fn report<R: Threads + Wait + Clock + Eprint + Sync>(
     rt: &R,
     alloc: Global,
-    workers: u32,
-    count: u64,
-    policy: (&str, &'static str),
+    case: Case,
 ) -> Option<()> {
-    let (name, text) = policy;
-    let settings = settings(alloc, workers, WordWidth::Eight)?;
-    let mut submitted = Submitted::new(alloc, count, text, now(rt));
-    play(rt, alloc, settings, 1, &mut submitted)?;
+    let mut submitted = Submitted::new(alloc, case, now(rt));
+    play_case(rt, alloc, case.workers, &mut submitted)?;
+    let (workers, name) = (case.workers, case.name);
     let served = submitted.served.load(SeqCst);
     let nanos = submitted
         .ended
@@ -155,19 +144,5 @@ fn report<R: Threads + Wait + Clock + Eprint + Sync>(
     let _ = eprintln!(rt;
         "workers {workers}, {name}, submitted: {events} events a second, of {served}"
     );
-    Some(())
-}
-
-/// Prints the rates of so many events under each program and by 1, 2 and 4 workers. None if an allocation fails.
-pub fn print_rates<R: Threads + Wait + Clock + Eprint + Sync>(
-    rt: &R,
-    alloc: Global,
-    count: u64,
-) -> Option<()> {
-    for policy in &POLICIES {
-        for workers in [1, 2, 4] {
-            report(rt, alloc, workers, count, *policy)?;
-        }
-    }
     Some(())
 }

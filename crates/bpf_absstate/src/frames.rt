@@ -2,6 +2,7 @@
 //! definitions.
 
 ghost use Rattle.std.specs.Prelude.{◌≡◌, ◌<◌, ◌+◌, [], ◌∷◌, ◌++◌, length, map, slice_index_or, slice_set, take, OnOk, OnErr, IfOk, IfSome, IfNone, true};
+ghost use Rattle.bpf_absval.specs.WellFormed.{IsSlot};
 ghost use Rattle.bpf_absval.specs.declared.slot.AbsSlot.TheVariants.{Unset};
 ghost use Rattle.bpf_absstate.specs.View.{main_frame, empty_stack, frame_unlabelled, with_frame_slot};
 ghost use Rattle.bpf_absstate.specs.Popped.{Popped};
@@ -249,6 +250,8 @@ impl Chain {
         requires inside { index < 64 }
         ensures ok { OnOk result (self.new ≡ with_frame_slot self.old k index slot) }
         ensures err { OnErr result (self.new ≡ self.old) }
+        // The slot is well formed.
+        ensures whole { IsSlot slot }
     {
         match &mut self.link {
             Link::End => {

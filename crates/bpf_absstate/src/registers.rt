@@ -4,6 +4,7 @@ ghost use Rattle.std.specs.Prelude.{◌≡◌, ◌+◌, ◌<◌, ◌≤◌, ◌|
 ghost use Rattle.bpf_absval.specs.declared.value.AbsVal.TheVariants.{Unset};
 ghost use Rattle.bpf_absval.specs.Marked.{is_marked, OthersStay, seen};
 ghost use Rattle.bpf_absval.specs.Unlabelled.{unlabelled, has_label, bare};
+ghost use Rattle.bpf_absval.specs.WellFormed.{IsVal};
 ghost use Rattle.bpf_absstate.specs.Difference.{lies_in_at, IsValueOutside};
 ghost use Rattle.bpf_absstate.specs.Inclusion.{values_included};
 ghost use Rattle.bpf_absstate.specs.Shared.{held_by};
@@ -441,6 +442,8 @@ impl Registers {
         requires { number < 11 }
         ensures ok { OnOk result (self.new ≡ slice_set self.old number value) }
         ensures err { OnErr result (self.new ≡ self.old) }
+        // The value is well formed.
+        ensures whole { IsVal value }
     {
         let values = Rc::make_mut(&mut self.shared)?;
         values.set(number, value)?;

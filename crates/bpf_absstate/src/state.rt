@@ -144,7 +144,6 @@ impl AbsState {
         ensures ok { OnOk result (self.new ≡ with_register self.old number value) }
         ensures err { OnErr result (self.new ≡ self.old) }
     {
-        value.whole();
         self.registers.set(number.number() as usize, value)?;
         Ok(())
     }
@@ -197,7 +196,6 @@ impl AbsState {
         ensures ok { OnOk result (self.new ≡ with_slot self.old k index slot) }
         ensures err { OnErr result (self.new ≡ self.old) }
     {
-        slot.whole();
         let frames = Rc::make_mut(&mut self.frames)?;
         frames.set_slot(self.depth, k, index, slot)?;
         Ok(())

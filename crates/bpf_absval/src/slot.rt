@@ -1,7 +1,6 @@
 //! What eight bytes of a stack frame may hold.
 
 ghost use Rattle.std.specs.Prelude.{◌≡◌};
-ghost use Rattle.bpf_absval.specs.WellFormed.{IsSlot};
 ghost use Rattle.bpf_absval.specs.Unlabelled.{slot_unlabelled, slot_has_label, slot_bare};
 
 use crate::value::AbsVal;
@@ -18,15 +17,6 @@ pub enum AbsSlot {
 }
 
 impl AbsSlot {
-    /// Each number in it is well formed.
-    pub fn whole(&self)
-        ensures { IsSlot self.now }
-    {
-        if let AbsSlot::Stored(value) = self {
-            value.whole();
-        }
-    }
-
     /// Whether a frame pointer with that label is stored.
     pub fn has_label(&self, label: u16) -> bool
         ensures { result ≡ slot_has_label label self.now }

@@ -1,11 +1,9 @@
 //! What a register may hold.
 
 ghost use Rattle.std.specs.Prelude.{◌≡◌};
-ghost use Rattle.bpf_absval.specs.WellFormed.{IsVal};
 ghost use Rattle.bpf_absval.specs.Unlabelled.{drop_label, is_label, unlabelled, has_label, bare};
 
 use bpf_absnum::AbsNum;
-use bpf_absnum::number::laws::well_formed_law;
 
 /// A region of memory other than the received frame.
 #[derive(Clone, Copy, Debug, PartialEq, Eq)]
@@ -78,18 +76,6 @@ fn dropped(known: Option<Label>, label: u16) -> Option<Label>
 }
 
 impl AbsVal {
-    /// Each number in it is well formed.
-    pub fn whole(&self)
-        ensures { IsVal self.now }
-    {
-        match self {
-            AbsVal::Number(number) => well_formed_law(*number),
-            AbsVal::Frame { offset, .. } => well_formed_law(*offset),
-            AbsVal::Pointer { offset, .. } => well_formed_law(*offset),
-            AbsVal::Unset | AbsVal::FrameEnd | AbsVal::MapReference(_) | AbsVal::Lookup(_) => {}
-        }
-    }
-
     /// Whether it is a frame pointer with that label.
     pub fn has_label(&self, label: u16) -> bool
         ensures { result ≡ has_label label self.now }

@@ -62,17 +62,12 @@ impl Stack {
         }
     }
 
-    /// It has 64 well-formed slots.
-    pub fn whole(&self)
-        ensures { IsStack self.now }
-    {
-        let _slots = &self.slots;
-    }
-
     /// The slot at `index`.
     pub fn get(&self, index: usize) -> AbsSlot
         requires { index < 64 }
-        ensures { slice_get self.now index ≡ Some result }
+        ensures is { slice_get self.now index ≡ Some result }
+        // The stack has 64 well-formed slots.
+        ensures whole { IsStack self.now }
     {
         let slot = self.slots.get(64, index);
         if self.bare.has(index) {
@@ -87,7 +82,6 @@ impl Stack {
         ensures ok { OnOk result (self.new ≡ slice_set self.old index slot) }
         ensures err { OnErr result (self.new ≡ self.old) }
     {
-        slot.whole();
         let alloc = self.alloc;
         self.slots.set(alloc, 64, index, slot)?;
         self.bare = self.bare.without(index);

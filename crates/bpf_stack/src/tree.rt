@@ -6,6 +6,7 @@ ghost use Rattle.std.specs.List.{list_all};
 ghost use Rattle.bpf_absval.specs.Unlabelled.{slot_unlabelled, slot_bare};
 ghost use Rattle.bpf_absval.specs.Inclusion.{slot_included};
 ghost use Rattle.bpf_absval.specs.Marked.{seen};
+ghost use Rattle.bpf_absval.specs.WellFormed.{IsSlot};
 ghost use Rattle.bpf_absval.specs.declared.slot.AbsSlot.TheVariants as cell;
 ghost use Rattle.bpf_stack.specs.Included.{slots_included, IsSet, IsOutside};
 ghost use Rattle.bpf_stack.specs.Marks.{StayOutside};
@@ -156,6 +157,8 @@ impl Slots {
         requires within { index < count }
         ensures ok { OnOk result (slots_of self.new ≡ slice_set (slots_of self.old) index slot) }
         ensures err { OnErr result (slots_of self.new ≡ slots_of self.old) }
+        // The slot is well formed.
+        ensures whole { IsSlot slot }
     {
         match self {
             Slots::Unset(depth) => {

@@ -10,7 +10,7 @@ ghost use Rattle.live_scenes.specs.Rights.{IsChiefBoxed, IsHandBoxed};
 use crate::hands::{Chief, Hand};
 use crate::purse::{PARTS, Purse};
 use ap_books::Ledgers;
-use ap_live::{LeftTokens, LiveAp, OperatorToken, WorkerToken, tokens_law};
+use ap_live::{LeftTokens, LiveAp, OperatorToken, WorkerToken};
 use ap_locked::Journals;
 use std::alloc::{AllocError, Global};
 
@@ -38,7 +38,6 @@ fn hire_workers<B: Ledgers + Journals>(
     ensures parts { OnOk result (left.new.parts + count ≡ left.old.parts) }
     ensures keeps { OnOk result (KeepsLive ap.old ap.new) }
 {
-    tokens_law();
     let mut tokens = Vec::with_capacity(alloc, count)?;
     for hired in 0..count {
         let token = boxed(alloc, ap.worker(alloc, left, count - 1 - hired))?;
@@ -60,7 +59,6 @@ fn hire_operators<B: Ledgers + Journals>(
     ensures parts { OnOk result (left.new.parts + count ≡ left.old.parts) }
     ensures workers { OnOk result (ap.new.stock.workers ≡ ap.old.stock.workers) }
 {
-    tokens_law();
     let mut tokens = Vec::with_capacity(alloc, count)?;
     for _hired in 0..count {
         let token = boxed(alloc, ap.operator(alloc, left))?;
@@ -89,7 +87,6 @@ fn hire<B: Ledgers + Journals>(
     ensures chiefs { IfOk result (λ c. All (IsChiefBoxed ap.new) c.operators.items) }
     ensures parts { OnOk result (left.new.parts + many.0 + many.1 ≡ left.old.parts) }
 {
-    tokens_law();
     let operators = hire_operators(ap, alloc, left, many.1)?;
     let workers = hire_workers(ap, alloc, left, many.0)?;
     Ok(Crew { workers, operators })

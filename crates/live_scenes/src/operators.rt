@@ -125,43 +125,20 @@ fn do_else<B: Ledgers + Journals, R: Wait>(
 ) {
     let guest = guest_of(chief.number);
     let call = call_of(index, 4);
+    let number = (index % 4096) as u16;
     put(rt, chief, diary, call, joining(alloc, guest, 0));
     put(rt, chief, diary, call, joining(alloc, guest, 1));
-    put(
-        rt,
-        chief,
-        diary,
-        call,
-        data(alloc, guest, (index % 4096) as u16),
-    );
+    put(rt, chief, diary, call, data(alloc, guest, number));
     kick(rt, alloc, chief, diary);
-    put(
-        rt,
-        chief,
-        diary,
-        call,
-        data(alloc, guest, (index % 4096) as u16),
-    );
+    put(rt, chief, diary, call, data(alloc, guest, number));
     put(rt, chief, diary, call, Ok(Event::Tick(1)));
     use_maps(chief, diary, index);
 }
 
-/// Submits the data with this index.
-fn step<B: Ledgers + Journals, R: Wait>(
-    rt: &R,
-    alloc: Global,
-    chief: &mut Chief<'_, B>,
-    diary: &mut Diary,
-    index: u64,
-) {
-    let operator = chief.number % 4;
+/// The data with this index of an operator.
+fn data_of(alloc: Global, operator: u8, index: u64) -> Result<Event, AllocError> {
     let station = address(operator, (index % 8) as u8);
-    let call = call_of(index, operator);
-    let event = data(alloc, station, (index / 8 % 4096) as u16);
-    put(rt, chief, diary, call, event);
-    if index % PAUSE == 0 {
-        do_else(rt, alloc, chief, diary, index);
-    }
+    data(alloc, station, (index / 8 % 4096) as u16)
 }
 
 /// Submits `events` data frames, and does all else meanwhile. It then reports that it is done, and returns what it did.
@@ -173,8 +150,13 @@ pub(crate) fn operate_on<B: Ledgers + Journals, R: Wait>(
     operating: &AtomicU64,
 ) -> Diary {
     let mut diary = Diary::new();
+    let operator = chief.number % 4;
     for index in 0..events {
-        step(rt, alloc, chief, &mut diary, index);
+        let event = data_of(alloc, operator, index);
+        put(rt, chief, &mut diary, call_of(index, operator), event);
+        if index % PAUSE == 0 {
+            do_else(rt, alloc, chief, &mut diary, index);
+        }
     }
     operating.fetch_sub(1, SeqCst);
     diary

@@ -24,26 +24,23 @@ use versions::Publisher;
 /// The most users of an access point at once: 8 workers, 8 operators and the publisher.
 const MOST: usize = 17;
 
-/// The workers of an access point, in the order of their numbers, and operators of it.
+/// The workers of an access point, in the order of their numbers, operators of it, and the publisher of its programs.
 #[derive(Drop)]
 pub struct Scene<'a, B: Ledgers + Journals> {
     pub hands: Vec<Hand<'a, B>>,
     pub chiefs: Vec<Chief<'a, B>>,
+    pub publisher: &'a mut Publisher,
 }
 
 impl<'a, B: Ledgers + Journals> Scene<'a, B> {
-    /// One after another, each worker serves its queue. If an allocation fails, the list has what that worker served
-    /// until then.
-    pub fn serve<R: Wait, G: Gate>(
-        &mut self,
-        rt: &R,
-        alloc: Global,
-        gate: &G,
-        list: &mut Vec<Tagged>,
-    ) {
+    /// One after another, each worker serves its queue. Returns what was served: if an allocation fails, of that worker
+    /// what it served until then.
+    pub fn serve<R: Wait, G: Gate>(&mut self, rt: &R, alloc: Global, gate: &G) -> Vec<Tagged> {
+        let mut list = Vec::new(alloc);
         for hand in self.hands.iter_mut() {
-            let _ = hand.serve(rt, alloc, gate, list);
+            let _ = hand.serve(rt, alloc, gate, &mut list);
         }
+        list
     }
 }
 
@@ -51,13 +48,7 @@ impl<'a, B: Ledgers + Journals> Scene<'a, B> {
 /// own thread, and last by one thread again.
 pub trait Story<R: Wait> {
     /// Runs first.
-    fn prepare<B: Ledgers + Journals>(
-        &mut self,
-        rt: &R,
-        alloc: Global,
-        scene: &mut Scene<'_, B>,
-        publisher: &mut Publisher,
-    );
+    fn prepare<B: Ledgers + Journals>(&mut self, rt: &R, alloc: Global, scene: &mut Scene<'_, B>);
 
     /// What each worker does.
     fn work<B: Ledgers + Journals>(&self, _rt: &R, _alloc: Global, _hand: &mut Hand<'_, B>) {}
@@ -80,11 +71,12 @@ enum Player<'x, 'a, B: Ledgers + Journals> {
     Publisher(&'x mut Publisher),
 }
 
-/// All workers, and operators.
+/// All workers, operators, and the publisher.
 fn scene_of<'a, B: Ledgers + Journals>(
     alloc: Global,
     ap: &'a LiveAp<B>,
     crew: Crew<B>,
+    publisher: &'a mut Publisher,
 ) -> Result<Scene<'a, B>, AllocError>
     requires hands { All (IsHandBoxed ap.now) crew.workers.items }
     requires chiefs { All (IsChiefBoxed ap.now) crew.operators.items }
@@ -98,7 +90,11 @@ fn scene_of<'a, B: Ledgers + Journals>(
         drop(hands);
         return Err(AllocError);
     };
-    Ok(Scene { hands, chiefs })
+    Ok(Scene {
+        hands,
+        chiefs,
+        publisher,
+    })
 }
 
 /// Takes back the parts of workers.
@@ -125,7 +121,7 @@ fn totals_of<B: Ledgers + Journals, R: Wait>(
     requires { B.shares ≡ 17 }
 {
     let mut purse = purse;
-    let Scene { hands, chiefs } = scene;
+    let Scene { hands, chiefs, .. } = scene;
     take_hands(&mut purse, hands);
     take_chiefs(&mut purse, chiefs);
     let totals = total(rt, ap, &mut purse);
@@ -137,18 +133,22 @@ fn totals_of<B: Ledgers + Journals, R: Wait>(
 fn players_of<'x, 'a, B: Ledgers + Journals>(
     alloc: Global,
     scene: &'x mut Scene<'a, B>,
-    publisher: &'x mut Publisher,
 ) -> Result<Vec<Option<Player<'x, 'a, B>>>, AllocError> {
+    let Scene {
+        hands,
+        chiefs,
+        publisher,
+    } = scene;
     let mut players = Vec::new(alloc);
-    let hands = scene.hands.iter_mut();
+    let hands = hands.iter_mut();
     for hand in hands {
         players.push(Some(Player::Hand(hand)))?;
     }
-    let chiefs = scene.chiefs.iter_mut();
+    let chiefs = chiefs.iter_mut();
     for chief in chiefs {
         players.push(Some(Player::Chief(chief)))?;
     }
-    players.push(Some(Player::Publisher(publisher)))?;
+    players.push(Some(Player::Publisher(&mut **publisher)))?;
     Ok(players)
 }
 
@@ -185,19 +185,13 @@ where
 }
 
 /// Each token's user does its part of a story, in a thread of its own. False if an allocation fails.
-fn play_all<B, R, S>(
-    rt: &R,
-    alloc: Global,
-    scene: &mut Scene<'_, B>,
-    publisher: &mut Publisher,
-    story: &S,
-) -> bool
+fn play_all<B, R, S>(rt: &R, alloc: Global, scene: &mut Scene<'_, B>, story: &S) -> bool
 where
     B: Ledgers + Journals + Send + Sync,
     R: Threads + Wait + Sync,
     S: Story<R> + Sync,
 {
-    let Ok(mut players) = players_of(alloc, scene, publisher) else {
+    let Ok(mut players) = players_of(alloc, scene) else {
         return false;
     };
     run_all(rt, alloc, players.as_mut_slice(), story);
@@ -206,46 +200,33 @@ where
 
 /// What a story does before its threads begin. A function of its own, as `finish`, since the borrow checker covers no
 /// function that makes both calls.
-fn prepare<B, R, S>(
-    rt: &R,
-    alloc: Global,
-    scene: &mut Scene<'_, B>,
-    publisher: &mut Publisher,
-    story: &mut S,
-)
+fn prepare<B, R, S>(rt: &R, alloc: Global, scene: &mut Scene<'_, B>, story: &mut S)
 where
-    B: Ledgers + Journals + Send + Sync,
-    R: Threads + Wait + Sync,
-    S: Story<R> + Sync,
+    B: Ledgers + Journals,
+    R: Wait,
+    S: Story<R>,
 {
-    story.prepare(rt, alloc, scene, publisher);
+    story.prepare(rt, alloc, scene);
 }
 
 /// What a story does once its threads have ended.
-fn finish<B, R, S>(rt: &R, scene: &mut Scene<'_, B>, story: &mut S)
-where
-    B: Ledgers + Journals + Send + Sync,
-    R: Threads + Wait + Sync,
-    S: Story<R> + Sync,
-{
+fn finish<B: Ledgers + Journals, R: Wait, S: Story<R>>(
+    rt: &R,
+    scene: &mut Scene<'_, B>,
+    story: &mut S,
+) {
     story.finish(rt, scene);
 }
 
 /// Runs a story to its end. False if an allocation fails.
-fn tell<B, R, S>(
-    rt: &R,
-    alloc: Global,
-    scene: &mut Scene<'_, B>,
-    publisher: &mut Publisher,
-    story: &mut S,
-) -> bool
+fn tell<B, R, S>(rt: &R, alloc: Global, scene: &mut Scene<'_, B>, story: &mut S) -> bool
 where
     B: Ledgers + Journals + Send + Sync,
     R: Threads + Wait + Sync,
     S: Story<R> + Sync,
 {
-    prepare(rt, alloc, scene, publisher, story);
-    if !play_all(rt, alloc, scene, publisher, &*story) {
+    prepare(rt, alloc, scene, story);
+    if !play_all(rt, alloc, scene, &*story) {
         return false;
     }
     finish(rt, scene, story);
@@ -253,7 +234,7 @@ where
 }
 
 /// Runs a story with all tokens, and reads the totals.
-fn told<B, R, S>(
+fn told<B: Ledgers + Journals + Send + Sync, R: Threads + Wait + Sync, S: Story<R> + Sync>(
     rt: &R,
     alloc: Global,
     ap: &LiveAp<B>,
@@ -261,36 +242,28 @@ fn told<B, R, S>(
     publisher: &mut Publisher,
     story: &mut S,
 ) -> Option<Totals>
-where
-    B: Ledgers + Journals + Send + Sync,
-    R: Threads + Wait + Sync,
-    S: Story<R> + Sync,
     requires hands { All (IsHandBoxed ap.now) tokens.0.workers.items }
     requires chiefs { All (IsChiefBoxed ap.now) tokens.0.operators.items }
     requires shares { B.shares ≡ 17 }
 {
     let (crew, purse) = tokens;
-    let Ok(mut scene) = scene_of(alloc, ap, crew) else {
+    let Ok(mut scene) = scene_of(alloc, ap, crew, publisher) else {
         drop(purse);
         return None;
     };
-    let told = tell(rt, alloc, &mut scene, publisher, story);
+    let told = tell(rt, alloc, &mut scene, story);
     let totals = totals_of(rt, ap, scene, purse);
     if told { totals } else { None }
 }
 
 /// Gives out all tokens of workers and `many.1` of operators, and runs the story with them.
-fn opened_to<B, R, S>(
+fn opened_to<B: Ledgers + Journals + Send + Sync, R: Threads + Wait + Sync, S: Story<R> + Sync>(
     rt: &R,
     alloc: Global,
     opened: Opened<B>,
     many: (usize, usize),
     story: &mut S,
 ) -> Option<Totals>
-where
-    B: Ledgers + Journals + Send + Sync,
-    R: Threads + Wait + Sync,
-    S: Story<R> + Sync,
     requires left { AreLeft opened.ap opened.left }
     requires all { length opened.ap.queues ≡ many.0 }
     requires parts { opened.left.parts ≡ parts_in_all }
@@ -314,7 +287,7 @@ where
 }
 
 /// Opens an access point with new shards, and runs the story with it.
-fn play_with<B, R, S>(
+fn play_with<B: Ledgers + Journals + Send + Sync, R: Threads + Wait + Sync, S: Story<R> + Sync>(
     rt: &R,
     alloc: Global,
     settings: Settings,
@@ -322,10 +295,6 @@ fn play_with<B, R, S>(
     operators: usize,
     story: &mut S,
 ) -> Option<Totals>
-where
-    B: Ledgers + Journals + Send + Sync,
-    R: Threads + Wait + Sync,
-    S: Story<R> + Sync,
     requires some { 0 < settings.workers }
     requires few { settings.workers ≤ 8 }
     requires few_operators { operators ≤ 8 }

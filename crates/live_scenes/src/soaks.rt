@@ -10,32 +10,12 @@ use ap_books::{Ledgers, Totals};
 use ap_live::OpenGate;
 use ap_locked::Journals;
 use bpf_regions::WordWidth;
-use std::alloc::Global;
+use std::alloc::{AllocError, Global};
 use std::sync::atomic::AtomicU64;
 use std::sync::atomic::Ordering::SeqCst;
 use std::sync::{Mutex, Wait};
 use std::thread::yield_now;
 use versions::Publisher;
-
-/// Adds 1 to word 0 of both maps, and passes the data up.
-const PASSING: &str = "lddw r1, value 0 0
-mov r2, 1
-atomic_add [r1+0], r2
-lddw r1, value 1 0
-atomic_add [r1+0], r2
-mov r0, 0
-exit
-";
-
-/// Adds 1 to word 1 of both maps, and drops the data.
-const DROPPING: &str = "lddw r1, value 0 0
-mov r2, 1
-atomic_add [r1+8], r2
-lddw r1, value 1 0
-atomic_add [r1+8], r2
-mov r0, 1
-exit
-";
 
 /// How often the publisher yields before it publishes again.
 const YIELDS: u32 = 200;
@@ -137,6 +117,29 @@ impl Soak {
     }
 }
 
+/// The text of a program that adds 1 to a word of both maps. With word 0 it passes the data up, with word 1 it drops it.
+fn counting(alloc: Global, word: u64) -> Result<String, AllocError> {
+    let offset = word.wrapping_mul(8);
+    format!(in alloc;
+        "lddw r1, value 0 0
+mov r2, 1
+atomic_add [r1+{offset}], r2
+lddw r1, value 1 0
+atomic_add [r1+{offset}], r2
+mov r0, {word}
+exit
+"
+    )
+}
+
+/// Publishes that program. False if an allocation fails.
+fn publish_counting<R: Wait>(rt: &R, alloc: Global, publisher: &mut Publisher, word: u64) -> bool {
+    match counting(alloc, word) {
+        Ok(text) => publish(rt, alloc, publisher, text.as_str(), WordWidth::Eight),
+        Err(_) => false,
+    }
+}
+
 /// Publishes the two programs alternately while there are operators. Returns how many it published.
 fn publish_on<R: Wait>(
     rt: &R,
@@ -149,8 +152,8 @@ fn publish_on<R: Wait>(
         if operating.load(SeqCst) == 0 {
             return published;
         }
-        for text in [DROPPING, PASSING] {
-            if publish(rt, alloc, publisher, text, WordWidth::Eight) {
+        for word in [1, 0] {
+            if publish_counting(rt, alloc, publisher, word) {
                 published = published.wrapping_add(1);
             }
             pause();
@@ -183,22 +186,15 @@ fn join_all<B: Ledgers + Journals, R: Wait>(
         }
     }
     let mut tally = Tally::new();
-    let mut list = Vec::new(alloc);
-    scene.serve(rt, alloc, &OpenGate, &mut list);
+    let mut list = scene.serve(rt, alloc, &OpenGate);
     tally.take(&mut list);
     found.add_tally(&tally);
 }
 
 impl<R: Wait> Story<R> for Soak {
-    fn prepare<B: Ledgers + Journals>(
-        &mut self,
-        rt: &R,
-        alloc: Global,
-        scene: &mut Scene<'_, B>,
-        publisher: &mut Publisher,
-    ) {
+    fn prepare<B: Ledgers + Journals>(&mut self, rt: &R, alloc: Global, scene: &mut Scene<'_, B>) {
         let mut found = Found::new();
-        if !publish(rt, alloc, publisher, PASSING, WordWidth::Eight) {
+        if !publish_counting(rt, alloc, scene.publisher, 0) {
             found.wrong = 1;
         }
         join_all(rt, alloc, scene, &mut found);

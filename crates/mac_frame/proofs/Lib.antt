@@ -6,3 +6,4 @@ pub mod Shapes
 pub mod Again
 pub mod Alone
 pub mod Fronts
+pub mod Tails

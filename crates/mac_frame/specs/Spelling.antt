@@ -1,5 +1,5 @@
 -- What frames are, and the one spelling of each.
-use Rattle.std.specs.Prelude.{◌≡◌, ℕ, ◌<◌, ◌≤◌, ◌^◌, Bool, true, false, List, [], ◌∷◌, ◌++◌, length}
+use Rattle.std.specs.Prelude.{◌≡◌, ℕ, ◌+◌, ◌<◌, ◌≤◌, ◌^◌, Bool, true, false, List, [], ◌∷◌, ◌++◌, length}
 use Rattle.std.specs.Int.{w16, w64, to_le_bytes}
 use Rattle.mac_types.specs.declared.fields.FrameFlags.{FrameFlags}
 use Rattle.mac_types.specs.Numbers.{IsWord, IsAddress, IsTid, IsSequenceNumber, sequence_control, block_ack_control}
@@ -170,6 +170,45 @@ IsContent (content.Management bssid sequence body) tail =
 IsContent (content.Control body) tail = IsControl body tail
 IsContent (content.Data destination sequence kind) tail =
     IsAddress destination × IsSequenceNumber sequence × IsData kind tail
+
+-- ---- what the grammar says of the tail alone
+
+-- elements after this many bytes, in a frame of at most 2400
+pub record AreElementsAfter (head : ℕ) (tail : List ℕ) : Type 0 where
+  pub spelled : AreElements tail
+  pub short : head + length tail ≤ 2400
+
+-- what follows a management body: elements, where the kind has them, and otherwise nothing
+abbrev pub IsManagementTail : Management → List ℕ → Type 0
+IsManagementTail (management.AssociationRequest capability interval) tail =
+    AreElementsAfter 28 tail
+IsManagementTail (management.AssociationResponse capability status aid) tail =
+    AreElementsAfter 30 tail
+IsManagementTail (management.ReassociationRequest capability interval current) tail =
+    AreElementsAfter 34 tail
+IsManagementTail (management.ReassociationResponse capability status aid) tail =
+    AreElementsAfter 30 tail
+IsManagementTail (management.Disassociation reason) tail = tail ≡ []
+IsManagementTail (management.Authentication algorithm transaction status) tail = tail ≡ []
+IsManagementTail (management.Deauthentication reason) tail = tail ≡ []
+IsManagementTail (management.AddbaRequest token parameters timeout start) tail = tail ≡ []
+IsManagementTail (management.AddbaResponse token status parameters timeout) tail = tail ≡ []
+IsManagementTail (management.Delba parameters reason) tail = tail ≡ []
+
+-- what follows a data body: data, up to the end of a frame of 2400 bytes, or nothing
+abbrev pub IsDataTail : DataKind → List ℕ → Type 0
+IsDataTail kinds.Data tail = 24 + length tail ≤ 2400
+IsDataTail kinds.Null tail = tail ≡ []
+IsDataTail (kinds.QosData qos) tail = 26 + length tail ≤ 2400
+IsDataTail (kinds.QosNull qos) tail = tail ≡ []
+
+-- what follows the fixed fields of a frame
+abbrev pub IsTail : Content → List ℕ → Type 0
+IsTail (content.Management bssid sequence body) tail = IsManagementTail body tail
+IsTail (content.Control body) tail = tail ≡ []
+IsTail (content.Data destination sequence kind) tail = IsDataTail kind tail
+
+-- ---- the whole grammar
 
 -- a frame of the frame grammar
 pub record IsFrame (f : Frame) : Type 0 where

@@ -4,7 +4,7 @@ ghost use Rattle.std.specs.Prelude.{◌≡◌, ◌∷◌, [], ◌↔◌, List, I
 ghost use Rattle.mac_frame.specs.Elements.{Element, AreElements, is_cut, elements_in, first_with, nonempty, IsSendable, rates_text};
 
 use crate::fields::tail_from;
-use crate::writing::put;
+use crate::spelled_parts::put;
 use std::alloc::{AllocError, Global};
 use std::marker::Model;
 

@@ -3,7 +3,7 @@
 ghost use Rattle.std.specs.Prelude.{◌≡◌, ◌+◌, ◌≤◌, ◌<◌, ◌++◌, ◌∷◌, [], length, vec_len, vec_capacity, false, IsOk, IfOk, IfErr, OnOk, OnErr, MatchResult, None, option_copied};
 ghost use Rattle.mac_types.specs.Numbers.{IsWord};
 ghost use Rattle.mac_frame.specs.Faults.{first_fault};
-ghost use Rattle.mac_frame.specs.Spelling.{Frame, IsFrame, IsManagement, content_subtype, spelling};
+ghost use Rattle.mac_frame.specs.Spelling.{Frame, IsFrame, AreSpelled, IsManagementTail, content_subtype, spelling};
 ghost use Rattle.mac_frame.specs.Frames.{bssid_of, sequence_number_of, parameters_of, tid_of, elements_of, ssid_of, rates_of, sent_management, sent_control};
 ghost use Rattle.mac_frame.specs.Reading.{IsFault};
 
@@ -12,8 +12,8 @@ use crate::contents::parts_from;
 use crate::elements::{Elements, ElementsBuf, SSID, SUPPORTED_RATES};
 use crate::fault::FrameFault;
 use crate::fields::{address_from, word_from};
+use crate::spelled_parts::{put, put_address, put_content, put_word};
 use crate::subtype::Subtype;
-use crate::writing::{put, put_address, put_content, put_word};
 use mac_types::{
     Address, AidField, BlockAckParameters, Capability, DelbaParameters, FrameFlags, Reason,
     SequenceNumber, Status, Tid,
@@ -34,7 +34,7 @@ pub struct MacFrame {
 }
 
 impl Model for MacFrame {
-    ghost use Rattle.mac_frame.specs.Spelling.{Frame, IsFrame};
+    ghost use Rattle.mac_frame.specs.Spelling.{Frame, IsTail};
 
     ghost Value = { Frame };
 
@@ -47,31 +47,29 @@ impl Model for MacFrame {
       tail = f.tail.items;
     } };
 
-    ghost invariant = { λ f. IsFrame (record {
-      flags = f.flags;
-      duration = f.duration;
-      receiver = f.receiver;
-      sender = f.sender;
-      content = f.content;
-      tail = f.tail.items;
-    }) };
+    ghost invariant = { λ f. IsTail f.content f.tail.items };
 }
 
+#[tactic(auto, using(crate::proofs::Tails::tail_read, crate::proofs::Fronts::spelled_by))]
 fn read(alloc: Global, bytes: &[u8]) -> Result<MacFrame, FrameFault>
     ensures found { IfOk result
         (λ f. IsFrame f × (bytes.now ≡ spelling f) × (first_fault bytes.now ≡ None)) }
+    ensures spelled { first_fault bytes.now ≡ None → AreSpelled bytes.now }
     ensures fault { IfErr result (λ e. IsFault e (first_fault bytes.now)) }
 {
     let (flags, content, tail) = match parts_from(bytes) {
         Ok(found) => found,
         Err(fault) => return Err(FrameFault::Fault(fault)),
     };
+    let duration = word_from(bytes, 2);
+    let receiver = address_from(bytes, 4);
+    let sender = address_from(bytes, 10);
     let tail = Vec::from_slice(alloc, tail)?;
     Ok(MacFrame {
         flags,
-        duration: word_from(bytes, 2),
-        receiver: address_from(bytes, 4),
-        sender: address_from(bytes, 10),
+        duration,
+        receiver,
+        sender,
         content,
         tail,
     })
@@ -82,6 +80,8 @@ pub fn parse(alloc: Global, bytes: &[u8]) -> Result<MacFrame, FrameFault>
     // What is read is in the grammar and has these bytes as its spelling, and the bytes have no fault.
     ensures found { IfOk result
         (λ f. IsFrame f × (bytes.now ≡ spelling f) × (first_fault bytes.now ≡ None)) }
+    // Bytes without a fault are the spelling of a frame of the grammar.
+    ensures spelled { first_fault bytes.now ≡ None → AreSpelled bytes.now }
     // A frame of the grammar with this spelling is read, unless memory runs out.
     ensures only { (f : Frame) → IsFrame f → bytes.now ≡ spelling f →
         MatchResult result (λ g. g ≡ f) (λ e. e ≡ FrameFault.Memory) }
@@ -94,10 +94,12 @@ pub fn parse(alloc: Global, bytes: &[u8]) -> Result<MacFrame, FrameFault>
 /// The most bytes that a frame has before its elements or data: a reassociation request has so many.
 pub const LONGEST_HEAD: usize = 34;
 
-/// Appends the frame's spelling. It succeeds if there is capacity for `LONGEST_HEAD` bytes and the frame's tail.
-/// After an error the vector holds what it held.
+/// Appends the spelling of the frame, which is in the grammar. It succeeds if there is capacity for `LONGEST_HEAD`
+/// bytes and the frame's tail. After an error the vector holds what it held.
+#[tactic(auto, using(crate::proofs::Tails::in_grammar))]
 pub fn write(frame: &MacFrame, out: &mut Vec<u8>) -> Result<(), AllocError>
     ensures ok { OnOk result (out.new.items ≡ out.old.items ++ spelling frame.now) }
+    ensures grammar { OnOk result (IsFrame frame.now) }
     ensures room { vec_len out.old + (LONGEST_HEAD + length frame.now.tail) ≤ vec_capacity out.old →
         IsOk result }
     ensures err { OnErr result (out.new.items ≡ out.old.items) }
@@ -115,13 +117,6 @@ pub fn write(frame: &MacFrame, out: &mut Vec<u8>) -> Result<(), AllocError>
 }
 
 impl MacFrame {
-    /// Gives proofs that the grammar has each frame; does nothing.
-    pub fn known(&self)
-        ensures { IsFrame self.now }
-    {
-        let _duration = self.duration;
-    }
-
     /// The flags that any frame may have.
     pub fn flags(&self) -> FrameFlags
         ensures { result ≡ self.now.flags }
@@ -252,12 +247,9 @@ impl MacFrame {
 
 /// A management frame to a station: no flags, duration 0, sequence number 0.
 fn sent(station: Address, bssid: Address, body: Management, tail: Vec<u8>) -> MacFrame
-    requires grammar { IsManagement body tail.items }
-    requires short { vec_len tail ≤ 2366 }
+    requires { IsManagementTail body tail.items }
     ensures { result ≡ sent_management station bssid body tail.items }
 {
-    station.known();
-    bssid.known();
     MacFrame {
         flags: FrameFlags::NONE,
         duration: 0,
@@ -285,7 +277,6 @@ impl MacFrame {
         ensures { result
             ≡ sent_management station bssid (Management.Authentication algorithm 2 status) [] }
     {
-        status.known();
         let body = Management::Authentication {
             algorithm,
             transaction: 2,
@@ -305,8 +296,6 @@ impl MacFrame {
         ensures { result
             ≡ sent_management station bssid (Management.AssociationResponse 1 status aid) elements }
     {
-        status.known();
-        aid.known();
         let body = Management::AssociationResponse {
             capability: Capability::ESS,
             status,
@@ -326,8 +315,6 @@ impl MacFrame {
         ensures { result ≡ sent_management station bssid
             (Management.ReassociationResponse 1 status aid) elements }
     {
-        status.known();
-        aid.known();
         let body = Management::ReassociationResponse {
             capability: Capability::ESS,
             status,
@@ -339,7 +326,6 @@ impl MacFrame {
     pub fn disassociation(alloc: Global, station: Address, bssid: Address, reason: Reason) -> Self
         ensures { result ≡ sent_management station bssid (Management.Disassociation reason) [] }
     {
-        reason.known();
         let body = Management::Disassociation { reason };
         sent(station, bssid, body, Vec::new(alloc))
     }
@@ -347,7 +333,6 @@ impl MacFrame {
     pub fn deauthentication(alloc: Global, station: Address, bssid: Address, reason: Reason) -> Self
         ensures { result ≡ sent_management station bssid (Management.Deauthentication reason) [] }
     {
-        reason.known();
         let body = Management::Deauthentication { reason };
         sent(station, bssid, body, Vec::new(alloc))
     }
@@ -369,9 +354,6 @@ impl MacFrame {
             parameters,
             timeout,
         } = response;
-        status.known();
-        parameters.tid.known();
-        parameters.buffer_size.known();
         let body = Management::AddbaResponse {
             dialog_token,
             status,
@@ -386,8 +368,6 @@ impl MacFrame {
         ensures { result ≡ sent_management station bssid
             (Management.Delba (record { initiator = false; tid = tid }) reason) [] }
     {
-        tid.known();
-        reason.known();
         let parameters = DelbaParameters {
             initiator: false,
             tid,
@@ -401,11 +381,7 @@ impl MacFrame {
         ensures { result ≡ sent_control station bssid
             (Control.BlockAck response.tid response.start response.bitmap) }
     {
-        station.known();
-        bssid.known();
         let BlockAck { tid, start, bitmap } = response;
-        tid.known();
-        start.known();
         MacFrame {
             flags: FrameFlags::NONE,
             duration: 0,

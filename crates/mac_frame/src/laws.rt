@@ -3,11 +3,9 @@
 ghost use Rattle.std.specs.Prelude.{◌≡◌, ◌++◌, None, OnOk, MatchResult};
 ghost use Rattle.mac_frame.specs.Elements.{CutsNone, ReadsElements};
 ghost use Rattle.mac_frame.specs.Faults.{first_fault};
-ghost use Rattle.mac_frame.specs.Spelling.{Frame, IsFrame, AreSpelled, spelling};
+ghost use Rattle.mac_frame.specs.Spelling.{Frame, IsFrame, spelling};
 
-use crate::contents::parts_from;
 use crate::fault::FrameFault;
-use crate::fields::{address_from, word_from};
 use crate::frame::{MacFrame, parse, write};
 
 /// Frames of the grammar and their spellings. The spelling of a frame has no fault, and no other frame has it. Bytes are
@@ -19,24 +17,11 @@ pub fn frames_are_spelled()
     ensures elements { ReadsElements }
 {}
 
-/// Bytes without a fault are the spelling of a frame of the grammar. The calls in its body find the frame's fields.
-pub fn faultless_is_spelled(bytes: &[u8])
-    ensures { first_fault bytes.now ≡ None → AreSpelled bytes.now }
-{
-    let Ok(_parts) = parts_from(bytes) else {
-        return;
-    };
-    let _duration = word_from(bytes, 2);
-    let _receiver = address_from(bytes, 4);
-    let _sender = address_from(bytes, 10);
-}
-
 /// Reading the bytes that `write` appended gives the frame that was written, unless memory runs out.
 pub fn written_is_read(frame: &MacFrame, out: &mut Vec<u8>) -> Result<MacFrame, FrameFault>
     ensures appended { OnOk result (out.new.items ≡ out.old.items ++ spelling frame.now) }
     ensures read { MatchResult result (λ read. read ≡ frame.now) (λ e. e ≡ FrameFault.Memory) }
 {
-    frame.known();
     let alloc = *out.allocator();
     let start = out.len();
     write(frame, out)?;

@@ -19,14 +19,14 @@ mod header;
 mod headers;
 mod laws;
 mod management_bodies;
+mod spelled_parts;
 mod subtype;
-mod writing;
 
 pub use content::{AddbaResponse, BlockAck, Content, Control, DataKind, Management};
 pub use elements::{Elements, ElementsBuf, SSID, SUPPORTED_RATES};
 pub use fault::{Fault, FrameFault};
 pub use frame::{LONGEST_HEAD, MacFrame, parse, write};
-pub use laws::{faultless_is_spelled, frames_are_spelled, written_is_read};
+pub use laws::{frames_are_spelled, written_is_read};
 pub use mac_types::{
     AckPolicy, Address, AidField, BlockAckParameters, BlockAckPolicy, BufferSize, Capability,
     DelbaParameters, FrameFlags, QosControl, Reason, SequenceNumber, Status, Tid,

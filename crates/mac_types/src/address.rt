@@ -45,11 +45,6 @@ impl Address {
         let [first, ..] = self.octets;
         first % 2 == 1
     }
-
-    /// Gives proofs the type's invariant; does nothing.
-    pub fn known(self)
-        ensures { IsAddress self }
-    {}
 }
 
 /// An octet as two hexadecimal digits.

@@ -59,11 +59,6 @@ impl AidField {
     {
         bits(self.field, 0, 14)
     }
-
-    /// Gives proofs the type's invariant; does nothing.
-    pub fn known(self)
-        ensures { IsWord self }
-    {}
 }
 
 /// The identifier in decimal.

@@ -43,11 +43,6 @@ impl BufferSize {
     {
         self.number
     }
-
-    /// Gives proofs the type's invariant; does nothing.
-    pub fn known(self)
-        ensures { IsBufferSize self }
-    {}
 }
 
 /// The number in decimal.

@@ -204,11 +204,6 @@ impl BlockAckParameters {
             + 4 * u16::from(self.tid.number())
             + 64 * self.buffer_size.number()
     }
-
-    /// Gives proofs the type's invariant; does nothing.
-    pub fn known(self)
-        ensures { IsBlockAckParameters self }
-    {}
 }
 
 /// The DELBA Parameter Set field (9.4.1.16) with a TID below 8.

@@ -2,8 +2,7 @@
 //!
 //! Main calls: `from_field` and `field` of each parameter field, `new` of each number. It depends on std alone.
 //! Reserved bits of parameter fields are refused, and ignored bits kept, so each value has one spelling.
-//! `fields_are_spelled` relates the test of a field's bits to the values that it spells. `known` gives proofs a type's
-//! invariant.
+//! `fields_are_spelled` relates the test of a field's bits to the values that it spells.
 #![tactic(auto)]
 
 mod address;

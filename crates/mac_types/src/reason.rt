@@ -46,11 +46,6 @@ impl Reason {
     {
         self.code
     }
-
-    /// Gives proofs the type's invariant; does nothing.
-    pub fn known(self)
-        ensures { IsWord self }
-    {}
 }
 
 /// The code in decimal.

@@ -68,11 +68,6 @@ impl SequenceNumber {
     {
         16 * self.number
     }
-
-    /// Gives proofs the type's invariant; does nothing.
-    pub fn known(self)
-        ensures { IsSequenceNumber self }
-    {}
 }
 
 /// The number in decimal.

@@ -61,11 +61,6 @@ impl Status {
     {
         self == Status::SUCCESS
     }
-
-    /// Gives proofs the type's invariant; does nothing.
-    pub fn known(self)
-        ensures { IsWord self }
-    {}
 }
 
 /// The code in decimal.

@@ -65,11 +65,6 @@ impl Tid {
     {
         4 + 4096 * u16::from(self.number)
     }
-
-    /// Gives proofs the type's invariant; does nothing.
-    pub fn known(self)
-        ensures { IsTid self }
-    {}
 }
 
 /// The number in decimal.

@@ -124,24 +124,7 @@ fn is_light(alloc: Global, numbers: &mut Numbers, code: &[u8]) -> Result<bool, A
     Ok(true)
 }
 
-/// Runs a program, and verifies it unless a run is long.
-fn judged_runs_first(
-    alloc: Global,
-    numbers: &mut Numbers,
-    program: Program,
-    code: &[u8],
-    inputs: &Inputs,
-) -> Result<Judged, AllocError> {
-    match look(&program, inputs, LONG) {
-        Seen::Long => Ok(Judged::Long),
-        Seen::Ended => judged_program(alloc, numbers, program, code, inputs),
-        Seen::Faulted => {
-            let judged = judged_program(alloc, numbers, program, code, inputs)?;
-            Ok(judged_faulty(judged))
-        }
-    }
-}
-
+/// Runs a program, and verifies it, unless its code isn't light or a run is long.
 fn judged_whole(
     alloc: Global,
     numbers: &mut Numbers,
@@ -152,7 +135,14 @@ fn judged_whole(
         return Ok(Judged::Long);
     }
     let inputs = Inputs::new(alloc, numbers.next())?;
-    judged_runs_first(alloc, numbers, program, code, &inputs)
+    match look(&program, &inputs, LONG) {
+        Seen::Long => Ok(Judged::Long),
+        Seen::Ended => judged_program(alloc, numbers, program, code, &inputs),
+        Seen::Faulted => {
+            let judged = judged_program(alloc, numbers, program, code, &inputs)?;
+            Ok(judged_faulty(judged))
+        }
+    }
 }
 
 /// Decodes code, writes it again, runs it, verifies it for a hook, and runs it on both machines if it is accepted.

@@ -5,7 +5,7 @@ use crate::codes::code;
 use crate::files::samples;
 use crate::numbers::Numbers;
 use crate::tally::Judged;
-use crate::{admission, assembly, captures, certified, configurations, frames, scripts};
+use crate::{admission, assembly, captures, certificate_bytes, configurations, frames, scripts};
 use std::alloc::{AllocError, Global};
 use std::io;
 use std::rt::Files;
@@ -211,7 +211,7 @@ impl Kind {
     fn turned(&self, alloc: Global, sample: Vec<u8>) -> Result<Vec<u8>, AllocError> {
         match self.of {
             Of::Text => assembly::text_of(alloc, &sample),
-            Of::Certificate => certified::certificate_of(alloc, &sample),
+            Of::Certificate => certificate_bytes::certificate_of(alloc, &sample),
             _ => Ok(sample),
         }
     }
@@ -255,7 +255,7 @@ impl Kind {
             Of::Text => assembly::judged(alloc, input),
             Of::Configuration => configurations::judged(alloc, input),
             Of::Script => scripts::judged(alloc, input),
-            Of::Certificate => certified::judged(alloc, numbers, input),
+            Of::Certificate => certificate_bytes::judged(alloc, numbers, input),
             Of::Capture => captures::judged(alloc, input),
         }
     }

@@ -22,8 +22,8 @@
 mod admission;
 mod assembly;
 mod captures;
+mod certificate_bytes;
 mod certificates;
-mod certified;
 mod changes;
 mod codes;
 mod configurations;

@@ -5,40 +5,4 @@
 #![tactic(auto)]
 
 #[cfg(test)]
-mod captures;
-#[cfg(test)]
-mod clocks;
-#[cfg(test)]
-mod configuration;
-#[cfg(test)]
-mod echo;
-#[cfg(test)]
-mod gates;
-#[cfg(test)]
-mod grammar;
-#[cfg(test)]
-mod lab;
-#[cfg(test)]
-mod lengths;
-#[cfg(test)]
-mod live;
-#[cfg(test)]
-mod memory;
-#[cfg(test)]
-mod recording;
-#[cfg(test)]
-mod refusals;
-#[cfg(test)]
-mod repeating;
-#[cfg(test)]
-mod running;
-#[cfg(test)]
-mod same;
-#[cfg(test)]
-mod shelf;
-#[cfg(test)]
-mod told;
-#[cfg(test)]
-mod watching;
-#[cfg(test)]
-mod writing;
+mod tests;

@@ -2,8 +2,8 @@
 
 ghost use Rattle.std.specs.Prelude.{◌≡◌, ◌<◌, length};
 
+use crate::digits::spelled;
 use crate::same::{holds, same};
-use crate::spelled::spelled;
 use mac_frame::{
     AckPolicy, AddbaResponse, Address, AidField, BlockAck, BlockAckParameters, BufferSize, Content,
     Control, DataKind, Elements, ElementsBuf, Fault, FrameFault, MacFrame, Management, QosControl,
@@ -590,15 +590,12 @@ fn of_management(body: Management) -> [u64; 4] {
             parameters,
             timeout,
             start,
-        } => {
-            let (size, first) = (parameters.buffer_size.number(), start.number());
-            [
-                u64::from(dialog_token),
-                u64::from(size),
-                u64::from(timeout),
-                u64::from(first),
-            ]
-        }
+        } => [
+            u64::from(dialog_token),
+            u64::from(parameters.buffer_size.number()),
+            u64::from(timeout),
+            u64::from(start.number()),
+        ],
         _ => [0; 4],
     }
 }

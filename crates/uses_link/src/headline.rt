@@ -5,7 +5,7 @@ ghost use Rattle.ap_model.specs.AccessPoint.{InPlace};
 ghost use Rattle.ap_core.specs.AccessPoints.{rules_of, outs_in};
 ghost use Rattle.uses_link.specs.Headline.{HoldsFromNobody, HoldsOn, HoldsAtOne, HoldsTwice};
 
-use ap_core::{Event, Judge, LinkConfig, Out, Shard, handle_all, known_shards, new_shards};
+use ap_core::{Event, Judge, LinkConfig, Out, Shard, handle_all, new_shards};
 use ap_laws::link_law;
 use std::alloc::{AllocError, Global};
 
@@ -46,7 +46,6 @@ pub fn go_on<J: Judge>(
     ensures place { InPlace (rules_of shards.new) }
 {
     link_law::<J>();
-    known_shards(shards);
     let results = handle_all(alloc, shards, events, judge)?;
     Ok(results)
 }
@@ -63,7 +62,7 @@ pub fn decide<J: Judge>(
         ∥₁) }
 {
     link_law::<J>();
-    shard.known();
+    let _stations = shard.stations();
     let outs = shard.handle(alloc, event, judge)?;
     Ok(outs)
 }

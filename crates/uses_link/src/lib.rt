@@ -16,13 +16,13 @@ mod agreements;
 #[cfg(test)]
 mod configurations;
 #[cfg(test)]
+mod digits;
+#[cfg(test)]
 mod fields;
 #[cfg(test)]
 mod frames;
 #[cfg(test)]
 mod same;
-#[cfg(test)]
-mod spelled;
 #[cfg(test)]
 mod stations;
 #[cfg(test)]

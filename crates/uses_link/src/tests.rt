@@ -5,17 +5,17 @@ ghost use Rattle.std.specs.Prelude.{◌<◌};
 ghost use Rattle.ap_model.specs.AccessPoint.{InPlace};
 ghost use Rattle.ap_core.specs.AccessPoints.{rules_of};
 
-mod asking;
-mod counting;
+mod counters;
 mod crowds;
 mod listing;
 mod policies;
+mod questions;
 mod refusals;
-mod setting;
+mod seats;
 mod transcripts;
 
+use crate::digits::{append, spelled};
 use crate::same::{counts, holds};
-use crate::spelled::{append, spelled};
 use ap_core::{Event, LinkConfig, ListJudge, Octets, Out, Shard, Up, handle_all, new_shards};
 use mac_frame::{Address, Reason, Tid};
 use std::alloc::Global;
@@ -78,8 +78,21 @@ enum Line<'a> {
 
 use Line::{Close, Frame, From, Kick, Notes, PassesUp, Qos, Request, Sends, Tick};
 
-/// What a transcript shows, the answers of queries, and its lines.
-type Transcript = (&'static str, &'static [u64], &'static [Line<'static>]);
+/// What a transcript shows, how it begins, the answers of queries, and its further lines.
+type Transcript = (
+    &'static str,
+    &'static [Line<'static>],
+    &'static [u64],
+    &'static [Line<'static>],
+);
+
+/// A station authenticates and associates.
+const JOINS: &[Line<'static>] = &[
+    Frame(AUTHENTICATION),
+    Sends(AUTHENTICATED),
+    Frame(ASSOCIATION),
+    Sends(ASSOCIATED),
+];
 
 fn station() -> Address {
     Address::new([2, 0, 0, 0, 0, 10])
@@ -141,6 +154,15 @@ fn event(rt: &impl Abort, alloc: Global, line: Line<'_>) -> Option<Event> {
         }
         Sends(_) | PassesUp(..) | Notes(_) => None,
     }
+}
+
+/// All lines of a transcript.
+fn lines_of(rt: &impl Abort, alloc: Global, transcript: &Transcript) -> Vec<Line<'static>> {
+    let (_, begun, _, further) = *transcript;
+    let mut lines = Vec::new(alloc);
+    lines.extend_from_slice(begun).expect(rt, "memory");
+    lines.extend_from_slice(further).expect(rt, "memory");
+    lines
 }
 
 /// The events of a transcript.

@@ -7,34 +7,4 @@
 #![tactic(auto)]
 
 #[cfg(test)]
-mod branches;
-#[cfg(test)]
-mod by_hand;
-#[cfg(test)]
-mod faults;
-#[cfg(test)]
-mod finished;
-#[cfg(test)]
-mod format;
-#[cfg(test)]
-mod intervals;
-#[cfg(test)]
-mod known;
-#[cfg(test)]
-mod numbers;
-#[cfg(test)]
-mod regions;
-#[cfg(test)]
-mod same;
-#[cfg(test)]
-mod small;
-#[cfg(test)]
-mod stacks;
-#[cfg(test)]
-mod states;
-#[cfg(test)]
-mod tristate;
-#[cfg(test)]
-mod values;
-#[cfg(test)]
-mod words;
+mod tests;

@@ -2,7 +2,8 @@
 
 ghost use Rattle.std.specs.Prelude.{◌≡◌, IfOk, IfErr};
 ghost use Rattle.bpf_helpers.specs.Hooked.{IsFitting};
-ghost use Rattle.ap_core.specs.Shards.{reads};
+ghost use Rattle.ap_core.specs.Shards.{reads, ruled};
+ghost use Rattle.ap_model.specs.Runs.{History};
 ghost use Rattle.ap_model.specs.Stations.{AreAssociated};
 ghost use Rattle.uses_policies.specs.Headline.{EventHolds};
 
@@ -13,12 +14,13 @@ use bpf_helpers::WorkerView;
 use hook_judge::{CountedState, SetJudge};
 use std::alloc::{AllocError, Global};
 
-/// What a worker's programs read of this shard.
+/// What a worker's programs read of this shard, which has a history.
 pub fn view_of<'t>(shard: &Shard, policies: Policies<'_, 't>) -> WorkerView<'t>
     ensures maps { result.maps ≡ policies.entry.maps }
     ensures worker { result.worker ≡ policies.entry.worker }
     ensures clock { result.clock ≡ (reads shard.now).clock }
     ensures stations { AreAssociated (reads shard.now).standing result.stations }
+    ensures history { ∥ History (ruled shard.now) (reads shard.now) ∥₁ }
 {
     WorkerView {
         maps: policies.maps,
@@ -47,7 +49,6 @@ pub fn decide(
     ensures refused { IfErr result (λ _. (shard.new ≡ shard.old) × (state.new ≡ state.old)) }
 {
     link_law::<SetJudge<'_, '_, '_>>();
-    shard.known();
     let mut judge = SetJudge::new(policies.set, view_of(shard, policies), state);
     let outs = shard.handle(alloc, event, &mut judge)?;
     Ok(outs)

@@ -4,22 +4,4 @@
 #![tactic(auto)]
 
 #[cfg(test)]
-mod books;
-#[cfg(test)]
-mod gates;
-#[cfg(test)]
-mod lines;
-#[cfg(test)]
-mod memory;
-#[cfg(test)]
-mod queue;
-#[cfg(test)]
-mod rows;
-#[cfg(test)]
-mod same;
-#[cfg(test)]
-mod scene;
-#[cfg(test)]
-mod soaking;
-#[cfg(test)]
-mod tables;
+mod tests;

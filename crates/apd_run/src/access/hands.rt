@@ -14,7 +14,7 @@ ghost use Rattle.apd_run.specs.Hands.{AreUnused};
 
 use crate::access::tokens::hire;
 use ap_books::{Ledgers, Portions};
-use ap_live::{LeftTokens, LiveAp, OperatorToken, WorkerToken, tokens_law};
+use ap_live::{LeftTokens, LiveAp, OperatorToken, WorkerToken};
 use ap_locked::Journals;
 use ap_queues::LinePasses;
 use ap_shards::AllPages;
@@ -68,7 +68,6 @@ fn give_rights<B: Ledgers + Journals>(
     ensures queues { ap.new.queues ≡ ap.old.queues }
     ensures maps { shapes_of ap.new.stock.maps ≡ shapes_of ap.old.stock.maps }
 {
-    tokens_law();
     let workers = hire(ap, alloc, left, count)?;
     let Ok(operator) = ap.operator(alloc, left) else {
         return Err(AllocError);

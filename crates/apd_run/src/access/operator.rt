@@ -75,43 +75,11 @@ impl<'a, B: Ledgers + Journals, L: Names, F: Files> Model for LiveOperator<'a, B
 
     ghost Value = { RunOperator F };
 
-    ghost view = { λ o. record {
-      ap = o.ap.now;
-      config = B.config;
-      token = o.token.value;
-      hoard = o.hoard.value;
-      pages = o.pages.value;
-      parts = o.parts;
-      passes = o.passes;
-      batches = o.register;
-      told = o.told;
-      settled = o.settled;
-      totals = o.totals;
-      workers = o.workers;
-      loads = o.loads.now;
-      programs = o.programs;
-      files = o.sources.files.now;
-      limits = o.sources.limits;
-    } };
+    ghost use Rattle.apd_run.specs.Operators.{operator_of};
 
-    ghost invariant = { λ o. IsRunOperator B.shares L.ap (record {
-      ap = o.ap.now;
-      config = B.config;
-      token = o.token.value;
-      hoard = o.hoard.value;
-      pages = o.pages.value;
-      parts = o.parts;
-      passes = o.passes;
-      batches = o.register;
-      told = o.told;
-      settled = o.settled;
-      totals = o.totals;
-      workers = o.workers;
-      loads = o.loads.now;
-      programs = o.programs;
-      files = o.sources.files.now;
-      limits = o.sources.limits;
-    }) };
+    ghost view = { λ o. operator_of B.config o };
+
+    ghost invariant = { λ o. IsRunOperator B.shares L.ap (operator_of B.config o) };
 }
 
 impl<'a, B: Ledgers + Journals, L: Names, F: Files> LiveOperator<'a, B, L, F> {

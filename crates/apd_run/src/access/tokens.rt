@@ -10,7 +10,7 @@ ghost use Rattle.ap_shards.specs.Pages.{pages_of};
 ghost use Rattle.apd_run.specs.Dealing.{AreNumberedFrom, IsNewWorker};
 
 use ap_books::Ledgers;
-use ap_live::{LeftTokens, LiveAp, WorkerToken, tokens_law};
+use ap_live::{LeftTokens, LiveAp, WorkerToken};
 use ap_locked::Journals;
 use std::alloc::{AllocError, Global};
 
@@ -37,7 +37,6 @@ pub(crate) fn hire<B: Ledgers + Journals>(
     ensures queues { ap.new.queues ≡ ap.old.queues }
     ensures maps { shapes_of ap.new.stock.maps ≡ shapes_of ap.old.stock.maps }
 {
-    tokens_law();
     let mut tokens = Vec::new(alloc);
     for number in 0..count {
         let Ok(token) = ap.worker(alloc, left, number) else {

@@ -1,9 +1,6 @@
-//! The law of abstract numbers, and that each is well formed. Each law's function does nothing.
+//! The law of abstract numbers.
 
-ghost use Rattle.std.specs.Prelude.{ℕ, ◌≡◌};
-ghost use Rattle.bpf_absnum.specs.Laws.{IsNum, TightenKeeps, IncludedKeeps, FullContains, SingleContains, CutContains, AluContains, NegatedContains, ExtendedContains, OrderedContains, WithinContains, LoadedContains, LoadedSignedContains, BranchKeeps};
-
-use crate::number::AbsNum;
+ghost use Rattle.bpf_absnum.specs.Laws.{TightenKeeps, IncludedKeeps, FullContains, SingleContains, CutContains, AluContains, NegatedContains, ExtendedContains, OrderedContains, WithinContains, LoadedContains, LoadedSignedContains, BranchKeeps};
 
 /// Abstract numbers are sound. `full` contains all words, `single` its word, and `cut` the members' low halves. The
 /// abstract result of each instruction contains its result on members, and that of a load each word that may be loaded.
@@ -23,9 +20,4 @@ pub fn number_law()
     ensures branch { BranchKeeps }
     ensures tighten { TightenKeeps }
     ensures included { IncludedKeeps }
-{}
-
-/// Every abstract number is well formed: its ends and bits are words, and no bit is both known and unknown.
-pub fn well_formed_law(number: AbsNum)
-    ensures { IsNum number }
 {}

@@ -5,7 +5,7 @@ ghost use Rattle.bpf_helpers.specs.Hooked.{IsFitting};
 
 use crate::same::same;
 use crate::tests::Line::{self, Frame, PassesUp, Sends};
-use crate::tests::setting::{NO_TEXTS, Seated, Texts, admitted, end, entered, two_seats};
+use crate::tests::seats::{NO_TEXTS, Seated, Texts, admitted, end, entered, two_seats};
 use crate::tests::{
     ASSOCIATED, ASSOCIATION, AUTHENTICATION, DATA, DECLINED, Results, SET_UP, SETUP, are_told,
     comes, config, events, frame, shard,

@@ -7,8 +7,8 @@ ghost use Rattle.ap_core.specs.AccessPoints.{rules_of};
 use super::Line::{Close, Frame, Kick, Notes, PassesUp, Qos, Request, Sends, Tick};
 use super::{
     ASSOCIATED, ASSOCIATION, AUTHENTICATED, AUTHENTICATION, DATA, DEAUTHENTICATED_6,
-    DEAUTHENTICATED_7, DISASSOCIATED_7, ENDS_OWN, Results, SET_UP, SETUP, Transcript, events,
-    is_told, shard, shards,
+    DEAUTHENTICATED_7, DISASSOCIATED_7, ENDS_OWN, JOINS, Results, SET_UP, SETUP, Transcript,
+    events, is_told, lines_of, shard, shards,
 };
 use ap_core::{Event, ListJudge, Out, Shard, handle_all};
 use std::alloc::Global;
@@ -42,6 +42,7 @@ const KICKED: &str = "c0000000 S P P 0000 0300";
 /// Stations come and go.
 static EXCHANGES: Transcript = (
     "refused exchanges may come again",
+    &[],
     &[5, 0, 258, 0, 0, 514, 0, 770],
     &[
         Frame("b0"),
@@ -99,14 +100,11 @@ static EXCHANGES: Transcript = (
 /// Windows move, and agreements end.
 static AGREEMENTS: Transcript = (
     "refused events of agreements may come again",
+    JOINS,
     &[
         0, 0, 8, 258, 514, 770, 1, 1026, 8, 1282, 1538, 8, 1794, 0, 8, 2050,
     ],
     &[
-        Frame(AUTHENTICATION),
-        Sends(AUTHENTICATED),
-        Frame(ASSOCIATION),
-        Sends(ASSOCIATED),
         // A delayed policy; declined, and then granted.
         Frame("d0000000 P S P 4000 0300 07 0002 0000 4006"),
         Sends("d0000000 S P P 0000 0301 07 2500 0200 0000"),
@@ -156,12 +154,9 @@ static AGREEMENTS: Transcript = (
 /// Agreements time out.
 static TICKS: Transcript = (
     "refused ticks may come again",
+    JOINS,
     &[0, 8, 8, 258, 514],
     &[
-        Frame(AUTHENTICATION),
-        Sends(AUTHENTICATED),
-        Frame(ASSOCIATION),
-        Sends(ASSOCIATED),
         Frame(SETUP_0),
         Sends(SET_UP_0),
         Frame(SETUP_5),
@@ -211,14 +206,16 @@ fn results_again(
 /// At a new shard, the events of a transcript lead to the outputs that it describes, if each that is refused for lack
 /// of memory is retried.
 fn leads_again(rt: &impl Abort, alloc: Global, transcript: &Transcript) {
-    let (what, answers, lines) = transcript;
-    let events = events(rt, alloc, lines);
+    let (what, _, answers, _) = transcript;
+    let lines = lines_of(rt, alloc, transcript);
+    let events = events(rt, alloc, &lines);
     let mut shard = shard(rt, alloc, 2);
     let results = results_again(rt, alloc, &mut shard, &events, &mut ListJudge::new(answers));
     // Freed by a call, since a shard has many parts.
     drop(shard);
     drop(events);
-    is_told(rt, alloc, lines, &results, what);
+    is_told(rt, alloc, &lines, &results, what);
+    drop(lines);
     drop(results);
 }
 
@@ -240,6 +237,7 @@ fn refused_ticks_may_come_again(rt: HostRuntime) {
 /// Agreements of two shards time out in one tick.
 static REFUSED_AT_ALL: Transcript = (
     "refused events at all shards may come again",
+    &[],
     &[0, 8, 258, 0, 8, 8, 514],
     &[
         Frame("b0"),
@@ -273,9 +271,8 @@ static REFUSED_AT_ALL: Transcript = (
     ],
 );
 
-/// The outputs of one event at all shards, which is retried if an allocation fails.
+/// The outputs of one event at all shards, which is retried if an allocation fails; none if one fails again.
 fn again_at_all(
-    rt: &impl Abort,
     alloc: Global,
     shards: &mut [Shard; 8],
     event: &[Event],
@@ -289,7 +286,9 @@ fn again_at_all(
             return Some(outs);
         }
     }
-    let mut results = handle_all(alloc, shards, event, judge).expect(rt, "memory");
+    let Ok(mut results) = handle_all(alloc, shards, event, judge) else {
+        return None;
+    };
     results.pop().unwrap_or(None)
 }
 
@@ -305,7 +304,7 @@ fn results_at_all(
 {
     let mut results = Vec::new(alloc);
     for event in events.chunks(1) {
-        let outs = again_at_all(rt, alloc, shards, event, judge);
+        let outs = again_at_all(alloc, shards, event, judge);
         results.push(outs).expect(rt, "memory");
     }
     results
@@ -313,12 +312,13 @@ fn results_at_all(
 
 #[test]
 fn refused_events_at_all_shards_may_come_again(rt: HostRuntime) {
-    let (what, answers, lines) = REFUSED_AT_ALL;
-    let events = events(&rt, rt.alloc(), lines);
+    let (what, _, answers, _) = REFUSED_AT_ALL;
+    let lines = lines_of(&rt, rt.alloc(), &REFUSED_AT_ALL);
+    let events = events(&rt, rt.alloc(), &lines);
     let mut shards = shards(&rt, rt.alloc());
     let mut judge = ListJudge::new(answers);
     let results = results_at_all(&rt, rt.alloc(), &mut shards, &events, &mut judge);
     // Freed by a call, since eight shards have many parts.
     drop(shards);
-    is_told(&rt, rt.alloc(), lines, &results, what);
+    is_told(&rt, rt.alloc(), &lines, &results, what);
 }

@@ -3,8 +3,8 @@
 use super::Line::{Close, Frame, Kick, Notes, PassesUp, Qos, Request, Sends, Tick};
 use super::{
     ASSOCIATED, ASSOCIATION, AUTHENTICATED, AUTHENTICATION, DATA, DEAUTHENTICATED_6,
-    DEAUTHENTICATED_7, DECLINED, DISASSOCIATED_7, ENDS_OTHER, ENDS_OWN, SET_UP, SETUP, Transcript,
-    events, handled, is_told,
+    DEAUTHENTICATED_7, DECLINED, DISASSOCIATED_7, ENDS_OTHER, ENDS_OWN, JOINS, SET_UP, SETUP,
+    Transcript, events, handled, is_told, lines_of,
 };
 use std::alloc::Global;
 use std::process::Abort;
@@ -13,12 +13,9 @@ use std::process::Abort;
 static ADMISSIONS: &[Transcript] = &[
     (
         "stations authenticate and associate",
+        JOINS,
         &[],
         &[
-            Frame(AUTHENTICATION),
-            Sends(AUTHENTICATED),
-            Frame(ASSOCIATION),
-            Sends(ASSOCIATED),
             // It releases its identifier, and gets it again.
             Frame(AUTHENTICATION),
             Sends(AUTHENTICATED),
@@ -32,6 +29,7 @@ static ADMISSIONS: &[Transcript] = &[
     // The shortest request, of 28 bytes, has no elements, and so no rates. The station stays in State 2.
     (
         "a request without elements is refused",
+        &[],
         &[],
         &[
             Frame(AUTHENTICATION),
@@ -48,6 +46,7 @@ static ADMISSIONS: &[Transcript] = &[
     (
         "authentications are refused",
         &[],
+        &[],
         &[
             // Another algorithm, and another transaction number.
             Frame("b0000000 P S P 1000 0100 0100 0000"),
@@ -58,6 +57,7 @@ static ADMISSIONS: &[Transcript] = &[
     ),
     (
         "associations are refused",
+        &[],
         &[5, 37, 0],
         &[
             Frame(AUTHENTICATION),
@@ -88,6 +88,7 @@ static ANSWERS: &[Transcript] = &[
     (
         "frames are answered by their class",
         &[],
+        &[],
         &[
             Frame(DATA),
             Sends(DEAUTHENTICATED_7),
@@ -116,12 +117,9 @@ static ANSWERS: &[Transcript] = &[
     ),
     (
         "data is marked or dropped",
+        JOINS,
         &[0, 1282, 1280, 1281, 514, 2],
         &[
-            Frame(AUTHENTICATION),
-            Sends(AUTHENTICATED),
-            Frame(ASSOCIATION),
-            Sends(ASSOCIATED),
             Frame(DATA),
             PassesUp(None, 3, 5, "68656c6c6f"),
             Frame(DATA),
@@ -138,6 +136,7 @@ static ANSWERS: &[Transcript] = &[
     ),
     (
         "bytes that are no frame for us are noted",
+        &[],
         &[],
         &[
             Frame("b0000000 P S P 1000 0000 0100 00"),
@@ -160,12 +159,9 @@ static ANSWERS: &[Transcript] = &[
 static WINDOWS: &[Transcript] = &[
     (
         "agreements are granted by their verdicts",
+        JOINS,
         &[0, 0, 0, 200, 8],
         &[
-            Frame(AUTHENTICATION),
-            Sends(AUTHENTICATED),
-            Frame(ASSOCIATION),
-            Sends(ASSOCIATED),
             // A delayed policy, for which no verdict is requested.
             Frame("d0000000 P S P 4000 0300 07 0002 0000 4006"),
             Sends(DECLINED),
@@ -184,12 +180,9 @@ static WINDOWS: &[Transcript] = &[
     ),
     (
         "numbers go round in a window",
+        JOINS,
         &[0, 64],
         &[
-            Frame(AUTHENTICATION),
-            Sends(AUTHENTICATED),
-            Frame(ASSOCIATION),
-            Sends(ASSOCIATED),
             // Size 4, from 4094 on.
             Frame("d0000000 P S P 4000 0300 07 0201 0000 e0ff"),
             Sends("d0000000 S P P 0000 0301 07 0000 0201 0000"),
@@ -207,12 +200,9 @@ static WINDOWS: &[Transcript] = &[
     ),
     (
         "far numbers move a window or are discarded",
+        JOINS,
         &[0, 8, 0, 0, 8],
         &[
-            Frame(AUTHENTICATION),
-            Sends(AUTHENTICATED),
-            Frame(ASSOCIATION),
-            Sends(ASSOCIATED),
             // 2148 is too far ahead, and so counts as old; 100 is still awaited.
             Frame(SETUP),
             Sends(SET_UP),
@@ -235,12 +225,9 @@ static WINDOWS: &[Transcript] = &[
 static ENDS: &[Transcript] = &[
     (
         "requests and dropped frames leave no gap",
+        JOINS,
         &[0, 8, 0, 0, 0, 0, 8, 0, 1],
         &[
-            Frame(AUTHENTICATION),
-            Sends(AUTHENTICATED),
-            Frame(ASSOCIATION),
-            Sends(ASSOCIATED),
             Frame(SETUP),
             Sends(SET_UP),
             Qos(102, "61"),
@@ -265,6 +252,7 @@ static ENDS: &[Transcript] = &[
     ),
     (
         "agreements end",
+        &[],
         &[0, 8, 0, 8, 0, 8],
         &[
             Close(0),
@@ -306,12 +294,9 @@ static ENDS: &[Transcript] = &[
     ),
     (
         "agreements time out",
+        JOINS,
         &[0, 8],
         &[
-            Frame(AUTHENTICATION),
-            Sends(AUTHENTICATED),
-            Frame(ASSOCIATION),
-            Sends(ASSOCIATED),
             Tick(7),
             // For TID 5, with timeout 10.
             Frame("d0000000 P S P 4000 0300 07 1602 0a00 4006"),
@@ -329,38 +314,39 @@ static ENDS: &[Transcript] = &[
 
 /// At a new access point, the events of a transcript lead to the outputs that it describes.
 fn leads(rt: &impl Abort, alloc: Global, transcript: &Transcript) {
-    let (what, answers, lines) = transcript;
-    let events = events(rt, alloc, lines);
+    let (what, _, answers, _) = transcript;
+    let lines = lines_of(rt, alloc, transcript);
+    let events = events(rt, alloc, &lines);
     let results = handled(rt, alloc, answers, &events);
     drop(events);
-    is_told(rt, alloc, lines, &results, what);
+    is_told(rt, alloc, &lines, &results, what);
+    drop(lines);
     drop(results);
+}
+
+/// So do those of each transcript.
+fn lead(rt: &impl Abort, alloc: Global, transcripts: &[Transcript]) {
+    for transcript in transcripts {
+        leads(rt, alloc, transcript);
+    }
 }
 
 #[test]
 fn stations_are_admitted(rt: HostRuntime) {
-    for transcript in ADMISSIONS {
-        leads(&rt, rt.alloc(), transcript);
-    }
+    lead(&rt, rt.alloc(), ADMISSIONS);
 }
 
 #[test]
 fn frames_are_answered(rt: HostRuntime) {
-    for transcript in ANSWERS {
-        leads(&rt, rt.alloc(), transcript);
-    }
+    lead(&rt, rt.alloc(), ANSWERS);
 }
 
 #[test]
 fn windows_move(rt: HostRuntime) {
-    for transcript in WINDOWS {
-        leads(&rt, rt.alloc(), transcript);
-    }
+    lead(&rt, rt.alloc(), WINDOWS);
 }
 
 #[test]
 fn agreements_end(rt: HostRuntime) {
-    for transcript in ENDS {
-        leads(&rt, rt.alloc(), transcript);
-    }
+    lead(&rt, rt.alloc(), ENDS);
 }

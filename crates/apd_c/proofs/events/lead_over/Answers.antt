@@ -3,7 +3,7 @@ use Rattle.std.proofs.lemmas.Result.{IfOk-weaker, on_err_weaker}
 use Rattle.apd_c.specs.declared.handle.Content.{Content}
 use Rattle.apd_c.specs.Held.{held}
 use Rattle.apd_c.specs.Lending.{with_content}
-use Rattle.apd_c.specs.Events.{HasLedTo, Stays}
+use Rattle.apd_c.specs.Events.{HasLedTo, Stays, event_of}
 use Rattle.apd_c.proofs.events.lead_over.Goals as goal
 
 pub returns-in-Some-clause-ok : goal.returns-in-Some-clause-ok
@@ -11,8 +11,8 @@ returns-in-Some-clause-ok c =
     let before : held c.args.maps.now ≡ Some c.in-Some.content.now = search rules in
     let after : held (with_content c.args.maps.now c.lead_on.new.content) ≡ Some c.lead_on.new.content = search rules in
     IfOk-weaker c.lead_on.result _ _
-    (λ outs h. subst (λ (o : Option Content). HasLedTo c.args.event (held c.args.link.now) o outs.items (held c.lead_on.new.link) (held (with_content c.args.maps.now c.lead_on.new.content))) (sym before)
-    (subst (λ (o : Option Content). HasLedTo c.args.event (held c.args.link.now) (Some c.in-Some.content.now) outs.items (held c.lead_on.new.link) o) (sym after) h))
+    (λ outs h. subst (λ (o : Option Content). HasLedTo (event_of c.args.event) (held c.args.link.now) o outs.items (held c.lead_on.new.link) (held (with_content c.args.maps.now c.lead_on.new.content))) (sym before)
+    (subst (λ (o : Option Content). HasLedTo (event_of c.args.event) (held c.args.link.now) (Some c.in-Some.content.now) outs.items (held c.lead_on.new.link) o) (sym after) h))
     c.lead_on.ensures.ok
 
 pub returns-in-Some-clause-kept : goal.returns-in-Some-clause-kept

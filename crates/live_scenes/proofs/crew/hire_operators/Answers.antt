@@ -3,7 +3,10 @@ use Rattle.ap_shards.proofs.Results.{if_ok, on_ok}
 use Rattle.ap_shards.specs.Tokens.{IsNewcomer}
 use Rattle.ap_live.specs.Opening.{GaveToken}
 use Rattle.ap_live.specs.Tokens.{IsOperator, Operator}
+use Rattle.ap_live.proofs.Keeping.{operator_kept}
+use Rattle.ap_live.proofs.Newcomers.{newcomer_parts}
 use Rattle.live_scenes.specs.Rights.{IsChief, IsChiefBoxed}
+use Rattle.live_scenes.proofs.Keeping.{chief_kept}
 use Rattle.live_scenes.proofs.OneByOne.{all_and_one}
 use Rattle.live_scenes.proofs.crew.hire_operators.Goals as goal
 
@@ -20,9 +23,9 @@ loop-hired-preserved g c =
     record {
       left = c.operator.ensures.left;
       own = all_and_one (IsChiefBoxed a) (IsChiefBoxed b) old new token
-          (λ w h. record { own = c.tokens_law.ensures.operators a b w.value c.operator.ensures.keeps h.own; part = h.part })
+          (λ o h. chief_kept a b o.value (operator_kept a b o.value c.operator.ensures.keeps) h)
           c.loop-hired.invariant.own
-          (record { own = if_ok (IsOperator b) c.operator.result token.value made c.operator.ensures.own; part = c.tokens_law.ensures.parts stock token.value.shards (if_ok (λ (t : Operator). IsNewcomer stock t.shards) c.operator.result token.value made c.operator.ensures.new) })
+          (record { own = if_ok (IsOperator b) c.operator.result token.value made c.operator.ensures.own; part = newcomer_parts stock token.value.shards (if_ok (λ (t : Operator). IsNewcomer stock t.shards) c.operator.result token.value made c.operator.ensures.new) })
           c.push_reserved.ensures.items;
       many = omega (arith, c.push_reserved.ensures.len, c.loop-hired.invariant.many);
       room = omega (arith, c.push_reserved.ensures.capacity, c.loop-hired.invariant.room);

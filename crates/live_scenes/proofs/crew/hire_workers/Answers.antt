@@ -3,8 +3,10 @@ use Rattle.ap_shards.proofs.Results.{if_ok, on_ok}
 use Rattle.ap_shards.specs.Tokens.{IsNewcomer}
 use Rattle.ap_live.specs.Opening.{GaveToken}
 use Rattle.ap_live.specs.Tokens.{IsWorker, Worker}
+use Rattle.ap_live.proofs.Keeping.{worker_kept}
+use Rattle.ap_live.proofs.Newcomers.{newcomer_parts}
 use Rattle.live_scenes.specs.Rights.{IsHand, IsHandBoxed}
-use Rattle.live_scenes.proofs.Keeping.{keeps_on}
+use Rattle.live_scenes.proofs.Keeping.{hand_kept, keeps_on}
 use Rattle.live_scenes.proofs.OneByOne.{all_and_one}
 use Rattle.live_scenes.proofs.crew.hire_workers.Goals as goal
 
@@ -22,9 +24,9 @@ loop-hired-preserved g c =
       left = c.worker.ensures.left;
       all = c.worker.ensures.keeps.workers ∙ c.loop-hired.invariant.all;
       own = all_and_one (IsHandBoxed a) (IsHandBoxed b) old new token
-          (λ w h. record { own = c.tokens_law.ensures.workers a b w.value c.worker.ensures.keeps h.own; part = h.part })
+          (λ w h. hand_kept a b w.value (worker_kept a b w.value c.worker.ensures.keeps) h)
           c.loop-hired.invariant.own
-          (record { own = if_ok (IsWorker b) c.worker.result token.value made c.worker.ensures.own; part = c.tokens_law.ensures.parts stock token.value.shards (if_ok (λ (t : Worker). IsNewcomer stock t.shards) c.worker.result token.value made c.worker.ensures.new) })
+          (record { own = if_ok (IsWorker b) c.worker.result token.value made c.worker.ensures.own; part = newcomer_parts stock token.value.shards (if_ok (λ (t : Worker). IsNewcomer stock t.shards) c.worker.result token.value made c.worker.ensures.new) })
           c.push_reserved.ensures.items;
       many = omega (arith, c.push_reserved.ensures.len, c.loop-hired.invariant.many);
       room = omega (arith, c.push_reserved.ensures.capacity, c.loop-hired.invariant.room);

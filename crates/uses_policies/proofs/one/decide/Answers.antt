@@ -24,7 +24,7 @@ returns-clause-headline c =
     }) in
     let made : (h' : Counted) → (_ ≡ k.state.ghost_name → h' ≡ k.state.now) → ∥ EventHolds p c.args.shard.now c.args.event.now c.args.state.now c.in_ok-outs.outs.items c.handle.new.self h' ∥₁ =
     λ h' written. at_one c.link_law.ensures.shard judged p c.args.shard.now c.handle.new.self c.args.event.now j k c.in_ok-outs.outs.items c.args.state.now h'
-    c.known.ensures.history c.in_ok-outs.ensures.step same given c.new-judge.ensures.state (λ name. written (sym c.new-judge.ensures.same_state ∙ name)) in
+    c.view_of.ensures.history c.in_ok-outs.ensures.step same given c.new-judge.ensures.state (λ name. written (sym c.new-judge.ensures.same_state ∙ name)) in
     search (rules, made)
 
 pub returns-clause-seats : goal.returns-clause-seats

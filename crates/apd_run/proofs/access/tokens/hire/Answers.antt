@@ -1,6 +1,8 @@
 use Rattle.std.proofs.Common.{◌∙◌, arith, sym}
 use Rattle.bpf_helpers.proofs.Keeping.{shapes_kept}
 use Rattle.ap_live.specs.Tokens.{IsWorker}
+use Rattle.ap_live.proofs.Keeping.{worker_kept}
+use Rattle.ap_live.proofs.Newcomers.{newcomer_counts, newcomer_parts}
 use Rattle.apd_run.specs.Dealing.{IsNewWorker}
 use Rattle.apd_run.proofs.Deciding.{new_unowned, new_unwritten}
 use Rattle.apd_run.proofs.Numbering.{numbered_more}
@@ -21,9 +23,9 @@ loop-number-preserved g c =
       left = c.worker.ensures.left;
       unmade = c.worker.ensures.made.kept 0 c.loop-number.invariant.unmade;
       all = c.worker.ensures.keeps.workers ∙ c.loop-number.invariant.all;
-      own = all_and_one (IsWorker a) (IsWorker b) old new token (λ w. c.tokens_law.ensures.workers a b w c.worker.ensures.keeps) c.loop-number.invariant.own c.in-Ok.ensures.own c.in_ok-push.ensures.items;
+      own = all_and_one (IsWorker a) (IsWorker b) old new token (λ w. worker_kept a b w c.worker.ensures.keeps) c.loop-number.invariant.own c.in-Ok.ensures.own c.in_ok-push.ensures.items;
       new_workers = all_and_one IsNewWorker IsNewWorker old new token (λ w h. h) c.loop-number.invariant.new_workers
-          (record { parts = c.tokens_law.ensures.parts stock token.shards c.in-Ok.ensures.new; nothing = c.tokens_law.ensures.nothing stock token.shards c.in-Ok.ensures.new; untaken = c.in-Ok.ensures.untaken; unowned = new_unowned stock token.shards c.in-Ok.ensures.new; unwritten = new_unwritten stock token.shards c.in-Ok.ensures.new })
+          (record { parts = newcomer_parts stock token.shards c.in-Ok.ensures.new; nothing = newcomer_counts stock token.shards c.in-Ok.ensures.new; untaken = c.in-Ok.ensures.untaken; unowned = new_unowned stock token.shards c.in-Ok.ensures.new; unwritten = new_unwritten stock token.shards c.in-Ok.ensures.new })
           c.in_ok-push.ensures.items;
       numbered = numbered_more old new token c.in_ok-push.ensures.items (c.in-Ok.ensures.number ∙ (sym c.loop-number.invariant.many ∙ c.loop-number.tokens.ok.0)) c.loop-number.invariant.numbered;
       many = omega (arith, c.in_ok-push.ensures.len, c.loop-number.invariant.many);

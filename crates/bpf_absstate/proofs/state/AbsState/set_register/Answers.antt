@@ -9,6 +9,6 @@ invariant_of-self-2 c =
     let a = c.self.inside in
     let old : View = record { pc = a.pc; registers = a.registers; frames = a.frames.value; least = a.least; rooms = a.rooms.value } in
     record {
-      view = subst (λ rs. IsView (record old { registers = rs })) (sym c.in_ok-set.ensures.ok) (whole_register old c.number.result c.args.value c.whole.ensures c.self.invariant.view);
+      view = subst (λ rs. IsView (record old { registers = rs })) (sym c.in_ok-set.ensures.ok) (whole_register old c.number.result c.args.value c.in_ok-set.ensures.whole c.self.invariant.view);
       count = c.self.invariant.count;
     }

@@ -14,6 +14,6 @@ invariant_of-self-2 c =
     let made : with_frame_slot a.frames.value k i s ≡ (c.make_mut.follows.lender new).value =
     sym (held ∙ c.in_ok-set_slot.ensures.ok ∙ ap (λ fs. with_frame_slot fs k i s) same) in
     let whole : IsView (record { pc = a.pc; registers = a.registers; frames = with_frame_slot a.frames.value k i s; least = a.least; rooms = a.rooms.value }) =
-    whole_slot (record { pc = a.pc; registers = a.registers; frames = a.frames.value; least = a.least; rooms = a.rooms.value }) k i s c.whole.ensures c.self.invariant.view in
+    whole_slot (record { pc = a.pc; registers = a.registers; frames = a.frames.value; least = a.least; rooms = a.rooms.value }) k i s c.in_ok-set_slot.ensures.whole c.self.invariant.view in
     subst (λ fs. IsState a.depth (record { pc = a.pc; registers = a.registers; frames = fs; least = a.least; rooms = a.rooms.value })) made
     (record { view = whole; count = c.self.invariant.count ∙ sym (length-set a.frames.value k (record (slice_index_or a.frames.value k main_frame) { stack = slice_set (slice_index_or a.frames.value k main_frame).stack i s })) })

@@ -1,5 +1,0 @@
-use Rattle.ap_queues.specs.Lines.{ArePassesOf}
-use Rattle.uses_workers.proofs.lines.count_operators.Given as goal
-
-abbrev pub invariant-loop : goal.invariant-loop
-invariant-loop l = ArePassesOf l.lines l.left

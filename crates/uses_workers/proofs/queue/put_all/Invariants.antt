@@ -1,5 +1,0 @@
-use Rattle.ap_queues.specs.Passes.{IsOperatorOf}
-use Rattle.uses_workers.proofs.queue.put_all.Given as goal
-
-abbrev pub invariant-loop-call : goal.invariant-loop-call
-invariant-loop-call g l = IsOperatorOf l.queue l.operator

@@ -1,0 +1,5 @@
+use Rattle.ap_queues.specs.Passes.{IsWorkerOf}
+use Rattle.uses_workers.proofs.tests.lines.has.Given as goal
+
+abbrev pub invariant-loop : goal.invariant-loop
+invariant-loop g l = IsWorkerOf l.queue l.worker
