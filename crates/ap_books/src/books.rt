@@ -3,8 +3,8 @@
 ghost use Rattle.ap_books.specs.Counts.{Counts};
 
 use crate::blanks::Blanks;
-use crate::counting::{notes_in, sent_in, up_in};
 use crate::ledgers::{CountLedger, Ledgers};
+use crate::out_counts::{notes_in, sent_in, up_in};
 use crate::shares::Shares;
 use crate::tally::Tally;
 use crate::totals::Totals;

@@ -8,8 +8,8 @@
 
 mod blanks;
 mod books;
-mod counting;
 mod ledgers;
+mod out_counts;
 mod portions;
 mod shares;
 mod tally;

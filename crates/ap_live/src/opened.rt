@@ -25,7 +25,7 @@ use hook_judge::CountedState;
 use shared_maps::MapFault;
 use std::alloc::{AllocError, Global};
 use std::sync::Wait;
-use versions::opening::published;
+use versions::new_publisher::published;
 use versions::{Published, Publisher};
 
 /// The number of parts of each ledger, and of pages of each journal: one for each of 8 operators and of

@@ -2,7 +2,7 @@
 mod fault;
 mod lines;
 mod passes;
-mod putting;
+mod submission;
 
 pub use fault::{LineFault, Unserved};
 pub use lines::EventLines;

@@ -8,7 +8,7 @@ use Rattle.ap_locked.specs.Pages.{new_page, new_pages}
 use Rattle.ap_locked.specs.declared.names.NewShard.{NewShard}
 use Rattle.ap_locked.specs.Tokens.{Token, newcomer}
 use Rattle.ap_shards.specs.Tokens.{Eight}
-use Rattle.ap_shards.specs.declared.opening.NewShards.{NewShards}
+use Rattle.ap_shards.specs.declared.new_shards.NewShards.{NewShards}
 
 -- the ledgers of each shard have these names and this many parts, and these are the journals
 pub record AreNamed (names : ℕ → ℕ → ℕ) (parts : ℕ) (journals : ℕ → Book) (n : NewShards) : Type 0 where

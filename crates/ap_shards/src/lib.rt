@@ -14,7 +14,7 @@ mod decisions;
 mod desk;
 mod fate;
 mod listings;
-mod opening;
+mod new_shards;
 mod pages;
 mod renewal;
 mod shards;
@@ -23,7 +23,7 @@ mod totals;
 
 pub use desk::Desk;
 pub use fate::Fate;
-pub use opening::NewShards;
+pub use new_shards::NewShards;
 pub use pages::AllPages;
 pub use shards::Shards;
 pub use tokens::ShardTokens;

@@ -7,7 +7,7 @@ ghost use Rattle.ap_locked.specs.Tokens.{AreTheJournal, CountJournal, rules};
 ghost use Rattle.ap_shards.specs.Pages.{AreTheJournals, HasPages};
 ghost use Rattle.ap_shards.specs.Tokens.{CountJournals};
 
-use crate::opening::both;
+use crate::new_shards::both;
 use crate::pages::AllPages;
 use crate::shards::Shards;
 use ap_books::{Ledgers, Portions, Shares, Totals};

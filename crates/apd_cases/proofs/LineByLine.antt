@@ -8,8 +8,8 @@ use Rattle.apd_cases.specs.Said.{Said}
 use Rattle.apd_cases.specs.Grammar.{line_says, IsWellFormed}
 use Rattle.apd_script.specs.Script.{lines_of, Cuts}
 use Rattle.apd_cases.specs.Cases.{numbered, said_from, AreCases, IsMalformedAfter, Spoils, SpoilsAt}
-use Rattle.apd_cases.specs.declared.reading.Unread.{Unread}
-use Rattle.apd_cases.specs.declared.reading.Unread.TheVariants.{Malformed, NoMemory}
+use Rattle.apd_cases.specs.declared.cases.Unread.{Unread}
+use Rattle.apd_cases.specs.declared.cases.Unread.TheVariants.{Malformed, NoMemory}
 
 -- the element at an index, and what precedes and follows it
 record IsNext {X : Type 0} (all : List X) (k : ℕ) (x : X) (rest : List X) : Type 0 where

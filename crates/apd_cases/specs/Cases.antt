@@ -5,8 +5,8 @@ use Rattle.apd_script.specs.Script.{lines_of}
 use Rattle.apd_cases.specs.Said.{Said, lines_said}
 use Rattle.apd_cases.specs.Grammar.{line_says, IsWellFormed}
 use Rattle.apd_cases.specs.declared.line.Numbered.{Numbered}
-use Rattle.apd_cases.specs.declared.reading.Unread.{Unread}
-use Rattle.apd_cases.specs.declared.reading.Unread.TheVariants.{Malformed, NoMemory}
+use Rattle.apd_cases.specs.declared.cases.Unread.{Unread}
+use Rattle.apd_cases.specs.declared.cases.Unread.TheVariants.{Malformed, NoMemory}
 
 -- what a line with this number says, followed by what later lines say
 abbrev pub numbered : ℕ → Option Said → List (ℕ × Said) → List (ℕ × Said)

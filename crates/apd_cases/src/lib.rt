@@ -6,15 +6,15 @@
 //! the next of its kind.
 #![tactic(auto)]
 
-mod expecting;
+mod cases;
+mod expect_line;
+mod keywords;
 mod line;
-mod reading;
-mod saying;
 mod situation;
-mod spelling;
+mod text;
 mod why;
 
+pub use cases::{Unread, read_cases};
 pub use line::{Expectation, Line, Numbered, Place, StationCount, Verdict};
-pub use reading::{Unread, read_cases};
 pub use situation::{Policy, Preset, Situation};
 pub use why::{LineFault, line_fault};

@@ -1,6 +1,6 @@
 //! Why a line is malformed, in words for people.
 
-use crate::expecting::expectation;
+use crate::expect_line::expectation;
 use apd_script::{Shown, is_near, line_at, next_word, text_fault};
 use std::{fmt, str};
 

@@ -5,7 +5,7 @@ use Rattle.bpf_decode.specs.Flow.{IsJump}
 use Rattle.apd_policies.specs.Blocks.{IsFirst, IsLast}
 use Rattle.apd_policies.specs.Overlays.{Told}
 use Rattle.apd_policies.specs.Graph.{edge_line, opening, insn_line, beginning, Appends, IsJumpEdge, Leads, Astray, AreTwoEdges, AreEdges, IsEnding, IsDrawn, IsDrawnAt, AreDrawn, Nothing, More, IsGraph}
-use Rattle.apd_policies.specs.declared.graph.drawing.Way.{Way}
+use Rattle.apd_policies.specs.declared.graph.nodes.Way.{Way}
 
 -- nothing is appended
 pub Appends-nothing : (P : List ℕ → Type 0) (old : List ℕ) → P [] → Appends P old old

@@ -7,8 +7,8 @@ use Rattle.bpf_line.specs.Spellings.{text_of}
 use Rattle.bpf_decode.specs.Flow.{IsJump, size_of}
 use Rattle.apd_policies.specs.Blocks.{IsFirst, IsLast}
 use Rattle.apd_policies.specs.Overlays.{Told, fill_of, note_of}
-use Rattle.apd_policies.specs.declared.graph.drawing.Way.{Way}
-use Rattle.apd_policies.specs.declared.graph.drawing.Way.TheVariants.{Next, Taken, NotTaken, Called}
+use Rattle.apd_policies.specs.declared.graph.nodes.Way.{Way}
+use Rattle.apd_policies.specs.declared.graph.nodes.Way.TheVariants.{Next, Taken, NotTaken, Called}
 
 -- ---- edges
 

@@ -4,8 +4,8 @@
 //! after the last. Each instruction is in one block; the edges are where control may go after a block's last
 //! instruction. The text is exactly that of the definition in `specs/`.
 mod blocks;
-mod drawing;
+mod nodes;
 mod overlay;
 
-pub use drawing::graph_text;
+pub use nodes::graph_text;
 pub use overlay::Overlay;

@@ -7,8 +7,8 @@ use Rattle.std.proofs.lemmas.List.Elements.{Contains-get_or}
 use Rattle.apd_files.specs.Held.{Held, Holds}
 use Rattle.apd_cases.specs.Cases.{AreCases, IsFirstMalformed, Spoils}
 use Rattle.apd_cases.specs.Said.{Said}
-use Rattle.apd_cases.specs.declared.reading.Unread.{Unread}
-use Rattle.apd_cases.specs.declared.reading.Unread.TheVariants as unread
+use Rattle.apd_cases.specs.declared.cases.Unread.{Unread}
+use Rattle.apd_cases.specs.declared.cases.Unread.TheVariants as unread
 use Rattle.apd_program.specs.declared.fault.ProgramFault.{ProgramFault}
 use Rattle.apd_program.specs.declared.fault.ProgramFault.TheVariants.{NoMemory}
 use Rattle.apd_program.specs.Faults.{IsMemoryOr}

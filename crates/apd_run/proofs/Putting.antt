@@ -13,7 +13,7 @@ use Rattle.versions.specs.Lists.{Beginning, with_load}
 use Rattle.versions.specs.Sets.{load}
 use Rattle.versions_checked.specs.Publishing.{IsRefusal}
 use Rattle.versions_checked.specs.declared.fault.CheckedFault.TheVariants as checked
-use Rattle.versions_checked.specs.declared.publishing.Offer.{Offer}
+use Rattle.versions_checked.specs.declared.offer.Offer.{Offer}
 use Rattle.apd_driver.specs.declared.reports.report.Told.{Told}
 use Rattle.apd_driver.specs.declared.reports.report.Told.TheVariants.{Loaded}
 use Rattle.apd_run.specs.Loading.{IsInForce, PutsInForce, InForce, NoRoomToPut, LoadsProgram, Admitted, NoRoomToLoad}

@@ -4,9 +4,9 @@
 //! Main call: `reason_text`. It depends on `bpf_verifier`, whose exploration found what the text says. Only tests show
 //! the texts.
 mod access;
+mod choice;
 mod costs;
 mod cure;
-mod curing;
 mod reason;
 mod refusal;
 mod values;

@@ -4,6 +4,6 @@
 //! program's run on the frame, with zeros in the maps: a line for each step with its slot, its instruction and its
 //! note, and a last one with R0 and the number of steps. It fails only for lack of memory.
 mod lines;
-mod tracing;
+mod plain_run;
 
-pub use tracing::trace_text;
+pub use plain_run::trace_text;

@@ -3,7 +3,7 @@ use Rattle.std.specs.Prelude.{IfSome}
 use Rattle.apd_files.specs.Held.{Held}
 use Rattle.apd_trials.specs.Policies.{IsAdmission}
 use Rattle.apd_cases.specs.Situations.{Situation, situation_of}
-use Rattle.apd_trials.specs.declared.running.Bench.{Bench}
+use Rattle.apd_trials.specs.declared.bench.Bench.{Bench}
 
 -- the situation of a bench
 abbrev pub stands : Bench → Situation

@@ -7,19 +7,19 @@
 #![tactic(auto)]
 
 mod admission;
+mod bench;
 mod blame;
 mod fault;
 mod found;
 mod report;
 mod row;
-mod running;
 mod texts;
 mod trial;
 
 pub use admission::{Admission, Reason, Setup};
+pub use bench::{Bench, run_cases};
 pub use fault::{CaseFault, Trouble};
 pub use found::Found;
 pub use report::Report;
 pub use row::{Row, Tally, count_rows};
-pub use running::{Bench, run_cases};
 pub use trial::Ended;

@@ -10,7 +10,7 @@ ghost use Rattle.apd_words.specs.declared.Told.TheVariants.{NoMemory};
 
 mod command;
 pub mod laws;
-mod reading;
+mod requests;
 mod table;
 mod words;
 

@@ -7,7 +7,7 @@ ghost use Rattle.apd_words.specs.Reads.{Reads, TellsOfKind, TellsNoHelp};
 ghost use Rattle.apd_words.specs.Spells.{Spells, IsReadAs};
 
 use crate::command::{HOOKS, WORKERS, command_line};
-use crate::reading::request;
+use crate::requests::request;
 use crate::{Request, Told};
 use clap::error::ErrorKind;
 use std::alloc::{AllocError, Global};

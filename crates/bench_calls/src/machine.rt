@@ -5,7 +5,7 @@
 use crate::asked::Asked;
 use crate::clock::{Work, least, print_each};
 use crate::programs::{of_code, verified};
-use bpf_machine::probing::probe;
+use bpf_machine::limited_run::probe;
 use bpf_machine::{Accepted, Bare, ListPort, Probe, run};
 use bpf_regions::{Context, Frame};
 use std::alloc::Global;

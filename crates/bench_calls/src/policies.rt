@@ -15,7 +15,7 @@ use hook_judge::CountedState;
 use std::alloc::Global;
 use std::sync::{Arc, Wait};
 use versions::ProgramSet;
-use versions::opening::published;
+use versions::new_publisher::published;
 
 /// The programs that are measured, with their names. The filter: R0 is 0 for QoS data with LLC/SNAP, IPv4 and UDP to
 /// port 53, and else 1; it tests the frame's end first. The counter: adds 1 to word 0 of map 0, and R0 is 0.

@@ -13,7 +13,7 @@ use std::sync::atomic::AtomicU32;
 use std::sync::atomic::Ordering::SeqCst;
 use std::thread::{Threads, for_each_mut, join, sleep};
 use std::time::Duration;
-use versions::opening::published;
+use versions::new_publisher::published;
 use versions::{Entrance, Published, Publisher, Reader};
 
 /// A reader, and the entrance of its set.

@@ -8,16 +8,16 @@
 #![tactic(auto)]
 
 mod check;
-pub mod decoding;
-pub mod encoding;
+pub mod decoder;
+pub mod encoder;
 pub mod fault;
 pub mod flow;
 pub mod program;
 mod slots;
 mod targets;
 
-pub use decoding::decode;
-pub use encoding::{encode, spelling_law};
+pub use decoder::decode;
+pub use encoder::{encode, spelling_law};
 pub use fault::{DecodeFault, SlotFault};
 pub use flow::jump_target;
 pub use program::Program;

@@ -7,16 +7,16 @@
 
 mod draws;
 pub mod hook_port;
+pub mod hook_run;
 pub mod map_tables;
 pub mod plain_map;
 pub mod plain_port;
-pub mod running;
 mod sums;
 pub mod worker;
 
 pub use hook_port::HookPort;
+pub use hook_run::run_hook;
 pub use map_tables::MapTables;
 pub use plain_map::PlainMap;
 pub use plain_port::PlainPort;
-pub use running::run_hook;
 pub use worker::{WorkerState, WorkerView};

@@ -1,4 +1,4 @@
-//! Programs that are safe to run, and whole runs: `run`, `trace` and `probing::probe`.
+//! Programs that are safe to run, and whole runs: `run`, `trace` and `limited_run::probe`.
 //!
 //! The crate depends on `bpf_bare`, for `run` and `trace`, and on `bpf_tagged`, for `probe`. An
 //! `Accepted` is safe within its budget, by its type invariant. `run` returns R0, the steps and the
@@ -9,19 +9,19 @@
 
 pub mod accepted;
 pub mod bare;
+pub mod limited_run;
 pub mod list_port;
+pub mod logged_run;
+mod one_step;
 pub mod outcome;
-pub mod probing;
-pub mod running;
 mod silent;
-mod stepping;
-pub mod tracing;
+pub mod whole_run;
 
 pub use accepted::Accepted;
 pub use bare::Bare;
 pub use bpf_bare::Word;
 pub use bpf_tagged::Port;
 pub use list_port::ListPort;
+pub use logged_run::trace;
 pub use outcome::{Exit, Outcome, Probe, Step};
-pub use running::{run, run_noting};
-pub use tracing::trace;
+pub use whole_run::{run, run_noting};

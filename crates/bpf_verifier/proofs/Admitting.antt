@@ -13,7 +13,7 @@ use Rattle.bpf_verifier.specs.Limits.{IsStateLimit, units_of}
 use Rattle.bpf_verifier.specs.Spent.{IsSpent, IsEarned, IsWithin, IsAmple, IsMemoryOrPassed}
 use Rattle.bpf_verifier.specs.Causes.{IsDue, ByMemory}
 use Rattle.bpf_verifier.specs.declared.limit.Limits.{Limits}
-use Rattle.bpf_verifier.specs.declared.listing.Explanation.{Explanation}
+use Rattle.bpf_verifier.specs.declared.explanation.Explanation.{Explanation}
 use Rattle.bpf_verifier.specs.declared.refusal.Refusal.{Refusal}
 
 -- a plain program is clear within the greatest limit

@@ -7,22 +7,22 @@
 #![tactic(auto)]
 
 pub mod admission;
+pub mod explanation;
 mod exploration;
 mod fold;
 mod frame;
 pub mod limit;
-pub mod listing;
 mod observer;
 mod path;
-mod raising;
 pub mod refusal;
+mod slot_budgets;
 
 pub use admission::{verify, verify_counted, verify_limited, verify_within};
 pub use bpf_prune::Work;
 pub use bpf_rules::Fault;
-pub use limit::{Limits, StateLimit};
-pub use listing::{
+pub use explanation::{
     Explanation, explain_limited, explain_within, explore, explore_counted, explore_limited,
     explore_within,
 };
+pub use limit::{Limits, StateLimit};
 pub use refusal::Refusal;

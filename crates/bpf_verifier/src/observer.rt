@@ -3,7 +3,7 @@
 ghost use Rattle.std.specs.Prelude.{◌≡◌, OnOk};
 ghost use Rattle.bpf_verifier.specs.Budgets.{raised_along, start_of, slots_after, budgets_of, ended};
 
-use crate::raising::{part, raises_along};
+use crate::slot_budgets::{part, raises_along};
 use bpf_absstate::AbsState;
 use bpf_prune::Entry;
 use std::alloc::{AllocError, Global};

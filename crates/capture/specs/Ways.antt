@@ -1,7 +1,7 @@
 -- What is still to come of a file of either kind.
 use Rattle.std.specs.Prelude.{◌≤◌, List, [], length}
-use Rattle.capture.specs.declared.walking.Way.{Way}
-use Rattle.capture.specs.declared.walking.Way.TheVariants.{Nothing, Records, Blocks}
+use Rattle.capture.specs.declared.walk.Way.{Way}
+use Rattle.capture.specs.declared.walk.Way.TheVariants.{Nothing, Records, Blocks}
 use Rattle.capture.specs.Packets.{Seen}
 use Rattle.capture.specs.Walking.{records_left, blocks_left}
 

@@ -8,8 +8,8 @@
 #![tactic(auto)]
 
 mod block;
+mod block_packets;
 mod block_walk;
-mod captured;
 mod fault;
 mod fields;
 mod form;
@@ -21,7 +21,7 @@ mod read;
 mod record_walk;
 mod recording;
 mod section;
-mod walking;
+mod walk;
 mod write;
 
 pub use fault::{CaptureFault, LeftOut};
@@ -29,5 +29,5 @@ pub use new_packet::{NewPacket, Side};
 pub use packet::Packet;
 pub use read::read_capture;
 pub use recording::Recording;
-pub use walking::{Walk, count_packets};
+pub use walk::{Walk, count_packets};
 pub use write::{MOST_KEPT, append_heading, append_packet, write_capture, written_law};

@@ -7,7 +7,7 @@ ghost use Rattle.capture.specs.Walks.{packets_in};
 
 use crate::fault::CaptureFault;
 use crate::packet::Packet;
-use crate::walking::{Walk, count_packets};
+use crate::walk::{Walk, count_packets};
 use std::alloc::Global;
 
 /// The packets of a capture file, in order, from classic pcap or pcapng (draft-ietf-opsawg-pcapng). A packet without a

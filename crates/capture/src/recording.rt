@@ -5,7 +5,7 @@ ghost use Rattle.capture.specs.Captures.{Holds, Refuses};
 ghost use Rattle.capture.specs.Walks.{packets_in};
 
 use crate::fault::CaptureFault;
-use crate::walking::{Walk, count_packets};
+use crate::walk::{Walk, count_packets};
 use std::alloc::Global;
 
 /// The bytes of a capture file, and how many packets they hold up to their end or their first fault. `new` makes it of

@@ -6,7 +6,7 @@ ghost use Rattle.capture.specs.Sections.{opening, begun, is_section_version, aft
 ghost use Rattle.capture.specs.Walking.{section_of, with_seen};
 
 use crate::block::{Block, SECTION};
-use crate::captured::{enhanced, simple};
+use crate::block_packets::{enhanced, simple};
 use crate::fault::CaptureFault;
 use crate::fields::{Endian, u16_at};
 use crate::interface::{Interface, interface_in};

@@ -12,7 +12,7 @@ use crate::examples::{Asked, hook_in, program_of};
 use crate::rows::field;
 use bpf_cert::{certificate, check, check_within};
 use bpf_decode::Program;
-use bpf_machine::probing::probe;
+use bpf_machine::limited_run::probe;
 use bpf_machine::{Accepted, ListPort, Probe};
 use bpf_regions::{Context, Frame, Hook};
 use std::alloc::{AllocError, Global};

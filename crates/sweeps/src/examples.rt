@@ -15,7 +15,7 @@ use crate::runs::{Inputs, judged_runs};
 use crate::tally::Judged;
 use bpf_decode::{DecodeFault, Program, decode, encode};
 use bpf_helpers::PlainPort;
-use bpf_machine::probing::probe;
+use bpf_machine::limited_run::probe;
 use bpf_machine::{Accepted, Bare, ListPort, Outcome, Probe, Step, run, trace};
 use bpf_regions::{Context, Frame, Hook, Scope, Shape, Shapes, WordWidth};
 use bpf_text::disassemble;

@@ -5,7 +5,7 @@ ghost use Rattle.std.specs.Prelude.{◌≡◌, ◌<◌};
 use crate::numbers::Numbers;
 use crate::tally::Judged;
 use bpf_decode::Program;
-use bpf_machine::probing::probe;
+use bpf_machine::limited_run::probe;
 use bpf_machine::{Accepted, ListPort, Outcome, Probe, run};
 use bpf_regions::{Context, Frame};
 use std::alloc::{AllocError, Global};

@@ -8,7 +8,7 @@ use Rattle.bpf_cert.specs.declared.limit.WithinFault.TheVariants as within
 use Rattle.versions.specs.Lists.{Beginning}
 use Rattle.versions_checked.specs.Publishing.{Obtains}
 use Rattle.versions_checked.specs.declared.fault.CheckedFault.TheVariants.{Certificate}
-use Rattle.versions_checked.specs.declared.publishing.Offer.{Offer}
+use Rattle.versions_checked.specs.declared.offer.Offer.{Offer}
 
 pub refused_obtains : (most : Option ℕ) (old : Beginning) (o : Offer) (e : WithinFault) (b : ℕ) → Within (HasPassedLimit most) (λ r. Admits r b) (Err e) → Obtains most old o (Err (Certificate e)) b
 refused_obtains most old o (within.Refused fault.NoMemory) b h = tt

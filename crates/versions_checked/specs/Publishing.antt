@@ -11,7 +11,7 @@ use Rattle.versions.specs.Sets.{load}
 use Rattle.versions.specs.declared.fault.PublishFault.TheVariants as publication
 use Rattle.versions_checked.specs.declared.fault.CheckedFault.{CheckedFault}
 use Rattle.versions_checked.specs.declared.fault.CheckedFault.TheVariants.{Certificate, Publication}
-use Rattle.versions_checked.specs.declared.publishing.Offer.{Offer}
+use Rattle.versions_checked.specs.declared.offer.Offer.{Offer}
 
 -- the certificate shows that the program is safe within b instructions
 abbrev pub IsShown : Offer → ℕ → Type 0

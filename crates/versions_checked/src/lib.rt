@@ -7,7 +7,7 @@
 #![tactic(auto)]
 
 mod fault;
-mod publishing;
+mod offer;
 
 pub use fault::CheckedFault;
-pub use publishing::{Offer, publish_checked, publish_checked_within};
+pub use offer::{Offer, publish_checked, publish_checked_within};

@@ -1,8 +1,8 @@
 //! Why a program is refused, or how much work admitting it took.
 
+use crate::reasons::choice::{cure_of, cure_of_map};
 use crate::reasons::costs::costs_text;
 use crate::reasons::cure::Cure;
-use crate::reasons::curing::{cure_of, cure_of_map};
 use crate::reasons::refusal::{append_origin, append_place, append_registers};
 use crate::reasons::way::append_way;
 use crate::refusals::explain as page_of;

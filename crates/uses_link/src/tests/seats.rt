@@ -14,7 +14,7 @@ use hook_judge::CountedState;
 use std::alloc::Global;
 use std::process::Abort;
 use std::sync::{Arc, Wait};
-use versions::opening::published;
+use versions::new_publisher::published;
 use versions::{Entered, Publisher};
 
 /// Maps, and two seats of worker 0 at each of its tables.

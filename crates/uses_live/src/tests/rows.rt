@@ -11,7 +11,7 @@ use bpf_regions::{Hook, Scope, Shape, WordWidth};
 use std::alloc::Global;
 use std::process::Abort;
 use std::sync::{Arc, Wait};
-use versions::opening::published;
+use versions::new_publisher::published;
 use versions::{Entered, NoReader, PublishFault, Published, Publisher, Reader};
 
 const ONE: &str = "mov r0, 1\nexit";
