@@ -45,4 +45,4 @@ returns-in-Ok-place_of-clause-performs g c =
     ∙ ap (λ d. place S d c.in-Ok-for_atomic.region (word_add c.in-Ok.target.base (word_of c.args.offset)) c.atomic_size-size.result) (sym c.len-depth.ensures.value)
     ∙ ap (λ x. place S c.len-depth.result c.in-Ok-for_atomic.region x c.atomic_size-size.result) (sym a) ∙ sym c.in-Ok-place_of.ensures.is in
     same g.P.Port.gives c.args.input.shapes.now (λ s. atomic_at s (atomic_bytes c.args.atomic.wide) c.operation_on_map.result c.register_for_old.result c.in-Ok-place_of.place) _ _ _ _ c.args.machine.now _
-    (λ notes. simp (c.in-Ok.ensures.to, c.in-Ok.ensures.value, c.in-Ok.ensures.compared, r, e, c.operation_on_map.ensures, c.register_for_old.ensures)) (rw c.requires.shapes at c.atomic_placed.ensures.performs)
+    (λ notes. simp (c.in-Ok.ensures.to, c.in-Ok.ensures.value, c.in-Ok.ensures.compared, r, e, c.operation_on_map.ensures.is, c.register_for_old.ensures.is)) (rw c.requires.shapes at c.atomic_placed.ensures.performs)
