@@ -4,7 +4,7 @@
 //! Main calls: `arithmetic::arithmetic`, `comparisons::is_taken`, `places::place_of`,
 //! `bytes::load_in`. The crate depends on `bpf_model`. Each function returns exactly its definition
 //! there (`specs/Alu`, `specs/Memory`), including its faults. They keep no state; the step of
-//! `bpf_tagged` and the ports of `bpf_helpers` use them.
+//! `bpf_tagged`, the machine of `bpf_bare` and the ports of `bpf_helpers` use them.
 #![tactic(auto)]
 
 pub mod arithmetic;
