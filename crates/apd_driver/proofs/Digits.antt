@@ -1,7 +1,12 @@
 -- The digits of an address, in one piece and octet by octet.
-use Rattle.std.proofs.Common.{◌≡◌, ◌<◌, ◌==◌, ◌&&◌, ◌/◌, ◌%◌, ℕ, Bool, true, false, List, [], ◌∷◌, zero, suc, inl, inr, refl, arith, get_or, slice_index}
-use Rattle.std.proofs.lemmas.Bool.{and_parts, cases_lt, eqb-true}
+use Rattle.std.proofs.Common.{◌≡◌, ◌<◌, ◌==◌, ◌&&◌, ◌/◌, ◌%◌, ◌++◌, ◌∙◌, ℕ, Bool, true, false, List, [], ◌∷◌, zero, suc, inl, inr, refl, sym, ap, arith, get_or, length, slice_index, take, drop}
+use Rattle.std.proofs.lemmas.Bool.{and_parts, cases_lt, eqb-true, ltb-true}
+use Rattle.std.proofs.lemmas.List.{take-append-drop}
+use Rattle.std.proofs.lemmas.Str.Ascii.{IsAscii-from_reads}
+use Rattle.std.proofs.Math.Dec.{ltb}
 use Rattle.std.specs.Fmt.{digit_glyph}
+use Rattle.std.specs.Str.{IsAscii}
+use Rattle.hex.proofs.HexLemmas.{IsAscii-encode_with}
 use Rattle.hex.specs.Hex.{encode_lower, encode_with, lower_digits}
 use Rattle.mac_types.specs.Texts.{address_text}
 
@@ -32,3 +37,44 @@ unfolding encode_with
 in_one_piece [] h = refl
 in_one_piece (o ∷ octets) h =
     rw (digit (o / 16) (omega (arith, h 0)), digit (o % 16) (omega arith), in_one_piece octets (λ i. h (suc i))) refl
+
+-- whether a digit is ASCII, which computes
+abbrev is_small : ℕ → Bool
+is_small d = ltb (get_or lower_digits d 0) 128
+
+abbrev all_small : ℕ → Bool
+all_small zero = true
+all_small (suc n) = is_small n && all_small n
+
+small-at : (n d : ℕ) → all_small n ≡ true → d < n → is_small d ≡ true
+small-at zero d h lt = absurd (omega arith)
+small-at (suc n) d h lt =
+    let parts = and_parts (is_small n) (all_small n) h in
+    elim (cases_lt d n) [
+      | inl below ↦ small-at n d parts.1 below
+      | inr top ↦
+          let e : d ≡ n = omega arith in
+          rw e parts.0
+    ]
+
+-- digits are ASCII
+pub are_ascii : (bytes : List ℕ) → IsAscii (encode_lower bytes)
+are_ascii bytes =
+    IsAscii-encode_with lower_digits bytes
+    (IsAscii-from_reads lower_digits 16 (omega arith) (λ d lt. ltb-true (get_or lower_digits d 0) 128 (small-at 16 d refl lt)))
+
+-- the digits of two pieces, one after the other
+appended : (t xs ys : List ℕ) → encode_with t (xs ++ ys) ≡ encode_with t xs ++ encode_with t ys
+unfolding encode_with
+appended t [] ys = refl
+appended t (x ∷ xs) ys = rw (appended t xs ys) refl
+
+-- the digits of what stands before a place and of what stands from there on
+pub in_two : (n : ℕ) (bytes : List ℕ) → encode_lower bytes ≡ encode_lower (take n bytes) ++ encode_lower (drop n bytes)
+in_two n bytes = ap encode_lower (sym (take-append-drop n bytes)) ∙ appended lower_digits (take n bytes) (drop n bytes)
+
+-- no bytes have no digits
+pub of_none : (bytes : List ℕ) → length bytes ≡ 0 → encode_lower bytes ≡ []
+unfolding encode_with
+of_none [] h = refl
+of_none (b ∷ bytes) h = absurd (omega arith)

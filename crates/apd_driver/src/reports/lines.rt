@@ -9,48 +9,42 @@ ghost use Rattle.apd_driver.specs.Lines.{drop_text, json_text, line_of, notice_l
 use crate::reports::json::{append_drop_json, append_loaded_json, append_outs_json};
 use crate::reports::notice::{Dropped, Notice, notice_of};
 use crate::reports::report::{Form, Report, Style, Told};
-use crate::reports::words::{CounterWords, TidWord, bytes_word, octets_word};
+use crate::reports::words::{CounterWords, TidWord, append_bytes, append_digits, append_octets};
 use ap_books::Totals;
 use ap_model::{Out, Up};
 use std::alloc::{AllocError, Global};
 use std::fmt;
 use std::fmt::Write;
 
-fn append_send(alloc: Global, text: &mut String, line: u64, frame: &[u8]) -> Result<(), AllocError>
+fn append_send(text: &mut String, line: u64, frame: &[u8]) -> Result<(), AllocError>
     ensures ok { IfOk result (λ _. string_bytes text.new ≡ string_bytes text.old
         ++ line_of line (out_words (Out.Send frame.now))) }
 {
-    let digits = hex::encode(alloc, frame)?;
-    writeln!(text, "{line} send {digits}")?;
-    Ok(())
+    write!(text, "{line} send ")?;
+    append_digits(text, frame)?;
+    text.push_str("\n")
 }
 
 /// Appends how the line of data that is passed up begins: whom it comes from, and whom it goes to.
-fn append_addresses(alloc: Global, text: &mut String, line: u64, up: &Up) -> Result<(), AllocError>
+fn append_addresses(text: &mut String, line: u64, up: &Up) -> Result<(), AllocError>
     ensures ok { IfOk result (λ _. string_bytes text.new ≡ string_bytes text.old
         ++ then (decimal line) (then (codes "up")
         (then (address_text up.now.source) (address_text up.now.destination)))) }
 {
-    let source = octets_word(alloc, up.source.octets().as_slice())?;
-    let destination = octets_word(alloc, up.destination.octets().as_slice())?;
-    write!(text, "{line} up {source} {destination}")?;
-    Ok(())
+    write!(text, "{line} up ")?;
+    append_octets(text, up.source.octets().as_slice())?;
+    text.push_str(" ")?;
+    append_octets(text, up.destination.octets().as_slice())
 }
 
-fn append_up(alloc: Global, text: &mut String, line: u64, up: &Up) -> Result<(), AllocError>
+fn append_up(text: &mut String, line: u64, up: &Up) -> Result<(), AllocError>
     ensures ok { IfOk result (λ _. string_bytes text.new ≡ string_bytes text.old
         ++ line_of line (out_words (Out.Up up.now))) }
 {
-    append_addresses(alloc, text, line, up)?;
-    let body = bytes_word(alloc, up.body.bytes())?;
-    writeln!(
-        text,
-        " {} {} {} {body}",
-        TidWord(up.tid),
-        up.number,
-        up.mark
-    )?;
-    Ok(())
+    append_addresses(text, line, up)?;
+    write!(text, " {} {} {} ", TidWord(up.tid), up.number, up.mark)?;
+    append_bytes(text, up.body.bytes())?;
+    text.push_str("\n")
 }
 
 fn append_note(text: &mut String, line: u64, note: u8) -> Result<(), AllocError>
@@ -61,23 +55,23 @@ fn append_note(text: &mut String, line: u64, note: u8) -> Result<(), AllocError>
     Ok(())
 }
 
-fn append_out(alloc: Global, text: &mut String, line: u64, out: &Out) -> Result<(), AllocError>
+fn append_out(text: &mut String, line: u64, out: &Out) -> Result<(), AllocError>
     ensures ok { IfOk result (λ _. string_bytes text.new ≡ string_bytes text.old
         ++ line_of line (out_words out.now)) }
 {
     match out {
-        Out::Send(frame) => append_send(alloc, text, line, frame.bytes()),
-        Out::Up(up) => append_up(alloc, text, line, up),
+        Out::Send(frame) => append_send(text, line, frame.bytes()),
+        Out::Up(up) => append_up(text, line, up),
         Out::Note(note) => append_note(text, line, *note),
     }
 }
 
-fn append_outs(alloc: Global, text: &mut String, line: u64, outs: &[Out]) -> Result<(), AllocError>
+fn append_outs(text: &mut String, line: u64, outs: &[Out]) -> Result<(), AllocError>
     ensures ok { IfOk result (λ _. string_bytes text.new ≡ string_bytes text.old
         ++ outs_text line outs.now) }
 {
     for out in outs {
-        append_out(alloc, text, line, out)?;
+        append_out(text, line, out)?;
     }
     Ok(())
 }
@@ -109,26 +103,21 @@ fn append_meaning(text: &mut String, line: u64, out: &Out) -> Result<(), AllocEr
 }
 
 /// Appends the line of an output, and what it means.
-fn append_noticed(alloc: Global, text: &mut String, line: u64, out: &Out) -> Result<(), AllocError>
+fn append_noticed(text: &mut String, line: u64, out: &Out) -> Result<(), AllocError>
     ensures ok { IfOk result (λ _. string_bytes text.new ≡ string_bytes text.old
         ++ noticed_out line out.now) }
 {
-    append_out(alloc, text, line, out)?;
+    append_out(text, line, out)?;
     append_meaning(text, line, out)?;
     Ok(())
 }
 
-fn append_noticed_outs(
-    alloc: Global,
-    text: &mut String,
-    line: u64,
-    outs: &[Out],
-) -> Result<(), AllocError>
+fn append_noticed_outs(text: &mut String, line: u64, outs: &[Out]) -> Result<(), AllocError>
     ensures ok { IfOk result (λ _. string_bytes text.new ≡ string_bytes text.old
         ++ noticed_outs line outs.now) }
 {
     for out in outs {
-        append_noticed(alloc, text, line, out)?;
+        append_noticed(text, line, out)?;
     }
     Ok(())
 }
@@ -167,12 +156,12 @@ impl fmt::Display for ToldWords<'_> {
 }
 
 /// Appends what became of a line, as lines.
-fn append_told(alloc: Global, text: &mut String, line: u64, told: &Told) -> Result<(), AllocError>
+fn append_told(text: &mut String, line: u64, told: &Told) -> Result<(), AllocError>
     ensures ok { IfOk result (λ _. string_bytes text.new ≡ string_bytes text.old
         ++ told_text line told.now) }
 {
     match told {
-        Told::Handled { outs, .. } => append_outs(alloc, text, line, outs.as_slice()),
+        Told::Handled { outs, .. } => append_outs(text, line, outs.as_slice()),
         Told::Memory
         | Told::Loaded { .. }
         | Told::Fault(_)
@@ -188,18 +177,13 @@ fn append_told(alloc: Global, text: &mut String, line: u64, told: &Told) -> Resu
 }
 
 /// Appends what became of a line, with what its frames mean.
-fn append_told_noticed(
-    alloc: Global,
-    text: &mut String,
-    line: u64,
-    told: &Told,
-) -> Result<(), AllocError>
+fn append_told_noticed(text: &mut String, line: u64, told: &Told) -> Result<(), AllocError>
     ensures ok { IfOk result (λ _. string_bytes text.new ≡ string_bytes text.old
         ++ noticed_text line told.now) }
 {
     match told {
         Told::Handled { outs, dropped } => {
-            append_noticed_outs(alloc, text, line, outs.as_slice())?;
+            append_noticed_outs(text, line, outs.as_slice())?;
             append_drop(text, line, *dropped)?;
             Ok(())
         }
@@ -210,7 +194,7 @@ fn append_told_noticed(
         | Told::Certificate { .. }
         | Told::Unreadable(_)
         | Told::Word { .. }
-        | Told::Malformed { .. } => append_told(alloc, text, line, told),
+        | Told::Malformed { .. } => append_told(text, line, told),
     }
 }
 
@@ -240,7 +224,7 @@ fn append_told_json(
         | Told::Certificate { .. }
         | Told::Unreadable(_)
         | Told::Word { .. }
-        | Told::Malformed { .. } => append_told(alloc, text, line, told),
+        | Told::Malformed { .. } => append_told(text, line, told),
     }
 }
 
@@ -257,8 +241,8 @@ fn append_styled(
     let line = report.line;
     let told = &report.told;
     match style {
-        Style::Lines => append_told(alloc, text, line, told),
-        Style::Notices => append_told_noticed(alloc, text, line, told),
+        Style::Lines => append_told(text, line, told),
+        Style::Notices => append_told_noticed(text, line, told),
         Style::Json => append_told_json(alloc, text, line, told),
     }
 }

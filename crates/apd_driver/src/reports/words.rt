@@ -1,12 +1,13 @@
 //! Words of a line.
 
-ghost use Rattle.std.specs.Prelude.{◌≡◌, IfOk, Some, string_bytes};
+ghost use Rattle.std.specs.Prelude.{◌≡◌, ◌≤◌, ◌++◌, OnOk, Some, length, string_bytes};
+ghost use Rattle.hex.specs.Hex.{encode_lower};
 ghost use Rattle.mac_types.specs.Texts.{address_text};
 ghost use Rattle.apd_driver.specs.Words.{tid_word, bytes_word, counter_words};
 
 use ap_books::Totals;
 use mac_types::Tid;
-use std::alloc::{AllocError, Global};
+use std::alloc::AllocError;
 use std::fmt;
 
 /// A TID, or a dash.
@@ -24,21 +25,51 @@ impl fmt::Display for TidWord {
     }
 }
 
-/// The octets of an address as hex digits, made in one piece: a run prints two addresses for each frame passed up.
-pub(crate) fn octets_word(alloc: Global, octets: &[u8]) -> Result<String, AllocError>
-    ensures is { IfOk result (λ text. string_bytes text ≡ address_text octets.now) }
+/// Appends at most 128 bytes as hex digits, by a buffer on the stack.
+fn append_piece(text: &mut String, piece: &[u8]) -> Result<(), AllocError>
+    requires short { length piece.now ≤ 128 }
+    ensures ok { OnOk result (string_bytes text.new ≡ string_bytes text.old ++ encode_lower piece.now) }
 {
-    hex::encode(alloc, octets)
+    let mut buffer = [0u8; 256];
+    let digits = &mut buffer[..2 * piece.len()];
+    let Ok(()) = hex::encode_to_slice(piece, digits) else {
+        unreachable!()
+    };
+    let Ok(digits) = str::from_utf8(digits) else {
+        unreachable!()
+    };
+    text.push_str(digits)
 }
 
-/// Bytes as hex digits, or a dash.
-pub(crate) fn bytes_word(alloc: Global, bytes: &[u8]) -> Result<String, AllocError>
-    ensures is { IfOk result (λ text. string_bytes text ≡ bytes_word bytes.now) }
+/// Appends bytes as hex digits. It allocates nothing but the text, since a run prints three such words for each frame
+/// passed up.
+pub(crate) fn append_digits(text: &mut String, bytes: &[u8]) -> Result<(), AllocError>
+    ensures ok { OnOk result (string_bytes text.new ≡ string_bytes text.old ++ encode_lower bytes.now) }
+{
+    let mut rest = bytes;
+    while !rest.is_empty() {
+        let (piece, later) = rest.split_at(rest.len().min(128));
+        append_piece(text, piece)?;
+        rest = later;
+    }
+    Ok(())
+}
+
+/// Appends the octets of an address as hex digits.
+pub(crate) fn append_octets(text: &mut String, octets: &[u8]) -> Result<(), AllocError>
+    ensures ok { OnOk result (string_bytes text.new ≡ string_bytes text.old ++ address_text octets.now) }
+{
+    append_digits(text, octets)
+}
+
+/// Appends bytes as hex digits, or a dash.
+pub(crate) fn append_bytes(text: &mut String, bytes: &[u8]) -> Result<(), AllocError>
+    ensures ok { OnOk result (string_bytes text.new ≡ string_bytes text.old ++ bytes_word bytes.now) }
 {
     if bytes.is_empty() {
-        return String::from_str(alloc, "-");
+        return text.push_str("-");
     }
-    hex::encode(alloc, bytes)
+    append_digits(text, bytes)
 }
 
 /// What was counted, in words.

@@ -1,0 +1,19 @@
+use Rattle.std.proofs.Common.{◌++◌, ◌∙◌, sym, ap, string_bytes, length}
+use Rattle.std.proofs.lemmas.Bool.{eqb-true}
+use Rattle.std.proofs.lemmas.List.{append_assoc, append-nil}
+use Rattle.apd_driver.proofs.Digits.{in_two, of_none}
+use Rattle.apd_driver.proofs.reports.words.append_digits.Goals as goal
+
+pub loop-rest-preserved : goal.loop-rest-preserved
+loop-rest-preserved c =
+    let two = in_two c.min.result c.loop-rest.rest.now in
+    rw (c.in_ok-append_piece.ensures.ok, c.split_at.ensures.front, c.split_at.ensures.back, append_assoc, ← two) c.loop-rest.invariant
+
+pub returns : goal.returns
+returns c =
+    let none = of_none c.loop-rest.rest.now (eqb-true (length c.loop-rest.rest.now) 0 (sym c.loop-rest-test.ensures)) in
+    record {
+      ok = sym (append-nil (string_bytes c.loop-rest.text))
+          ∙ ap (λ digits. string_bytes c.loop-rest.text ++ digits) (sym none)
+          ∙ c.loop-rest.invariant;
+    }
