@@ -21,9 +21,11 @@
 //!   500 stations alternating, 250 in each of two shards; and a copy of the frame;
 //! - `judge`: a shard, for a data frame of 100 bytes of one associated station that programs judge: without a program,
 //!   under a port filter that tests the frame's end, and under a program that counts in a map; beside each the verdict
-//!   by itself.
+//!   by itself;
+//! - `single`: an access point of one caller, without a program, for a data frame of 100 bytes.
 #![tactic(auto)]
 
+mod access_point;
 mod asked;
 mod certificates;
 mod clock;
@@ -47,7 +49,7 @@ use std::thread::Threads;
 use std::{env, io};
 
 /// All benchmarks.
-static NAMES: [&str; 10] = [
+static NAMES: [&str; 11] = [
     "text",
     "loop",
     "joins",
@@ -58,6 +60,7 @@ static NAMES: [&str; 10] = [
     "windows",
     "link",
     "judge",
+    "single",
 ];
 
 /// Measures a benchmark, and prints the result. None if there is no such benchmark, or it can't be measured.
@@ -77,6 +80,7 @@ fn perform<R: Threads + Wait + Runtime + Sync + AllocGlobal>(
         "windows" => Some(windows::print_times(rt, asked)),
         "link" => link::print_times(rt, alloc, asked),
         "judge" => judges::print_times(rt, alloc, asked),
+        "single" => access_point::print_times(rt, alloc, asked),
         _ => None,
     }
 }

@@ -56,6 +56,11 @@ pub fn data(alloc: Global, station: u16, number: u16, size: u16) -> Result<Vec<u
     frame(alloc, [0x88, 0x01], station, rest.as_slice())
 }
 
+/// Data without QoS, number 0, in a frame of 100 bytes: zeros behind the addresses.
+pub fn plain(alloc: Global, station: u16) -> Result<Vec<u8>, AllocError> {
+    frame(alloc, [0x08, 0x01], station, &[0; 78])
+}
+
 /// The event of a frame.
 pub fn event(bytes: Vec<u8>) -> Event {
     Event::Frame(Octets::new(bytes))
