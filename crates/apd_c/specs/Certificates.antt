@@ -27,7 +27,7 @@ bytes_of _ = []
 
 -- the content is a program, which the bytes show safe within some budget
 abbrev pub Certifies : Option Content → List ℕ → Type 0
-Certifies code bytes = (a : Verified) × (code ≡ Some (content.Code a)) × (b : ℕ) × Covered a.code a.hook bytes b
+Certifies code bytes = (a : Verified) × (code_of code ≡ Some a) × (b : ℕ) × Covered a.code a.hook bytes b
 
 -- the handle holds such bytes
 abbrev pub HoldsCertificate : Option Content → Option Content → Type 0
@@ -44,7 +44,7 @@ pub record IsShown (hook : Hook) (bytes : List ℕ) (shapes : List Shape) (certi
 -- the content is such a program
 abbrev pub HoldsShown : ℕ → List ℕ → List MapShape → List ℕ → Option Content → Type 0
 HoldsShown hook bytes shapes certificate o =
-    (a : Verified) × (h : Hook) × (o ≡ Some (content.Code a)) × (hook ≡ number_of h) × IsShown h bytes (map shape_of shapes) certificate a
+    (a : Verified) × (h : Hook) × (code_of o ≡ Some a) × (hook ≡ number_of h) × IsShown h bytes (map shape_of shapes) certificate a
 
 -- The certificate doesn't show safe the program that the bytes spell, for the first of its faults, or an allocation
 -- failed.

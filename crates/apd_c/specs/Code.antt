@@ -77,24 +77,28 @@ pub record IsRefusedCode (bytes : List ℕ) (shapes : List Shape) (limit : ℕ) 
 abbrev pub IsRefused : List ℕ → List Shape → ℕ → Option ℕ → Answer → Type 0
 IsRefused bytes shapes limit work answer = IsUndecoded bytes shapes answer ⊎ IsRefusedCode bytes shapes limit work answer
 
+-- the program that is held
+abbrev pub code_of : Option Content → Option Verified
+code_of (Some (content.Code boxed)) = Some boxed.value
+code_of _ = None
+
 -- the content is an admitted program
 abbrev pub HoldsAdmitted : ℕ → List ℕ → List MapShape → ℕ → Option Content → Type 0
 HoldsAdmitted hook bytes shapes limit o =
-    (a : Verified) × (h : Hook) × (o ≡ Some (content.Code a)) × (hook ≡ number_of h) × IsAdmitted h bytes (map shape_of shapes) limit a
+    (a : Verified) × (h : Hook) × (code_of o ≡ Some a) × (hook ≡ number_of h) × IsAdmitted h bytes (map shape_of shapes) limit a
 
 -- with a limit of work, the budget is at most an 80th of it, since each of its steps is earned by a state that is examined
 abbrev pub IsWithinWork : Option ℕ → ℕ → Type 0
 IsWithinWork work budget = (most : ℕ) → work ≡ Some most → 80 * budget ≤ most
 
--- the program that is held
-abbrev pub code_of : Option Content → Option Verified
-code_of (Some (content.Code a)) = Some a
-code_of _ = None
+-- the budget of a program; 0 without one
+abbrev pub budget_in : Option Verified → ℕ
+budget_in (Some a) = a.budget
+budget_in None = 0
 
--- the budget of a program; 0 if the content is something else
+-- the budget of the program that is held
 abbrev pub budget_of : Option Content → ℕ
-budget_of (Some (content.Code a)) = a.budget
-budget_of _ = 0
+budget_of o = budget_in (code_of o)
 
 -- 0, or why the program isn't admitted
 abbrev pub IsAdmittedOr : List ℕ → List Shape → ℕ → Option ℕ → Answer → Type 0

@@ -7,7 +7,6 @@ use Rattle.ap_single.specs.Leading.{Parts, IsLike, Leads}
 use Rattle.apd_c.specs.declared.events.Happening.{Happening}
 use Rattle.apd_c.specs.declared.events.Happening.TheVariants as happening
 use Rattle.apd_c.specs.declared.handle.Content.{Content}
-use Rattle.apd_c.specs.declared.handle.Content.TheVariants as content
 use Rattle.apd_c.specs.declared.maps.Maps.{Maps}
 use Rattle.apd_c.specs.Answers.{IsDone, Perhaps, Unless, UnlessNone, UnlessSome}
 use Rattle.apd_c.specs.Link.{link_of}
@@ -40,7 +39,7 @@ HasLed o m event outs o' m' = (a : Parts) × (a' : Parts) × (link_of o ≡ Some
 
 -- the same if a handle holds the maps
 abbrev pub HasLedTo : Event → Option Content → Option Content → List Out → Option Content → Option Content → Type 0
-HasLedTo event o maps outs o' maps' = (m : Maps) × (m' : Maps) × (maps ≡ Some (content.Maps m)) × (maps' ≡ Some (content.Maps m')) × HasLed o m event outs o' m'
+HasLedTo event o maps outs o' maps' = (m : Maps) × (m' : Maps) × (maps_of maps ≡ Some m) × (maps_of maps' ≡ Some m') × HasLed o m event outs o' m'
 
 -- the same, and a handle holds the outputs
 abbrev pub LeadsTo : Event → Option Content → Option Content → Option Content → Option Content → Option Content → Type 0
@@ -50,7 +49,7 @@ LeadsTo event o maps outs o' maps' = HasLedTo event o maps (outs_of outs) o' map
 pub data Stays (o o' : Option Content) : Type 0 where
   same : o' ≡ o → Stays o o'
   like : (a a' : Parts) → link_of o ≡ Some a → link_of o' ≡ Some a' → IsLike a a' → Stays o o'
-  kept : (m m' : Maps) → o ≡ Some (content.Maps m) → o' ≡ Some (content.Maps m') → IsSame m m' → Stays o o'
+  kept : (m m' : Maps) → maps_of o ≡ Some m → maps_of o' ≡ Some m' → IsSame m m' → Stays o o'
 
 -- The result of an event at the access point of one handle, over the maps of another: 0 fills a third with the outputs
 -- and the caller's number; a refusal leaves readings, maps and the third unchanged.

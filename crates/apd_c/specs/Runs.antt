@@ -6,7 +6,6 @@ use Rattle.bpf_machine.specs.Runs.{Ran, setting_of}
 use Rattle.bpf_machine.specs.declared.outcome.Outcome.{Outcome}
 use Rattle.bpf_helpers.specs.Hooked as hooked
 use Rattle.apd_c.specs.declared.handle.Content.{Content}
-use Rattle.apd_c.specs.declared.handle.Content.TheVariants as content
 use Rattle.apd_c.specs.declared.maps.Maps.{Maps}
 use Rattle.apd_c.specs.declared.runs.Given.{Given}
 use Rattle.apd_c.specs.declared.runs.Report.{Report}
@@ -34,11 +33,11 @@ pub record RunsOn (a : Verified) (m : Maps) (frame : List ℕ) (g : Given) (repo
 -- the run over maps that a handle holds
 abbrev pub HasRun : Verified → Option Content → List ℕ → Given → Report → Option Content → Type 0
 HasRun a o frame g report o' =
-    (m : Maps) × (m' : Maps) × (o ≡ Some (content.Maps m)) × (o' ≡ Some (content.Maps m')) × RunsOn a m frame g report m'
+    (m : Maps) × (m' : Maps) × (maps_of o ≡ Some m) × (maps_of o' ≡ Some m') × RunsOn a m frame g report m'
 
 -- the run of a program that a handle holds
 abbrev pub RunsCode : Option Content → Option Content → List ℕ → Given → Report → Option Content → Type 0
-RunsCode code o frame g report o' = (a : Verified) × (code ≡ Some (content.Code a)) × HasRun a o frame g report o'
+RunsCode code o frame g report o' = (a : Verified) × (code_of code ≡ Some a) × HasRun a o frame g report o'
 
 -- the frame and the number of stations are within their limits
 pub record IsGivable (frame : List ℕ) (g : Given) : Type 0 where

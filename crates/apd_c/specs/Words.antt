@@ -14,14 +14,14 @@ use Rattle.apd_c.specs.declared.words.Loaded.{Loaded}
 use Rattle.apd_c.specs.Answers.{IsDone, Perhaps, Unless, UnlessNone, UnlessSome}
 use Rattle.apd_c.specs.Given.{AreInLimits, shape_of}
 
--- the content is maps of these shapes, whose programs next draw this word
-abbrev pub HoldsMaps : List MapShape → ℕ → Option Content → Type 0
-HoldsMaps shapes draw o = (m : Maps) × (o ≡ Some (content.Maps m)) × (m.shapes ≡ map shape_of shapes) × (m.state.draw ≡ draw)
-
 -- the maps that are held
 abbrev pub maps_of : Option Content → Option Maps
-maps_of (Some (content.Maps m)) = Some m
+maps_of (Some (content.Maps boxed)) = Some boxed.value
 maps_of _ = None
+
+-- the content is maps of these shapes, whose programs next draw this word
+abbrev pub HoldsMaps : List MapShape → ℕ → Option Content → Type 0
+HoldsMaps shapes draw o = (m : Maps) × (maps_of o ≡ Some m) × (m.shapes ≡ map shape_of shapes) × (m.state.draw ≡ draw)
 
 -- perhaps 40, for lack of memory; otherwise perhaps 62, for lack of a seat; otherwise 90 exactly if the shapes are out
 -- of their limits; otherwise 0
@@ -56,7 +56,7 @@ pub record IsAccessed (m : Maps) (at word : ℕ) (operation : MapOp) (answer : �
 -- one access, if the handle holds maps
 abbrev pub HasAccessed : Option Content → ℕ → ℕ → MapOp → ℕ → Option Content → Type 0
 HasAccessed o at word operation answer o' =
-    (m : Maps) × (m' : Maps) × (o ≡ Some (content.Maps m)) × (o' ≡ Some (content.Maps m')) × IsAccessed m at word operation answer m'
+    (m : Maps) × (m' : Maps) × (maps_of o ≡ Some m) × (maps_of o' ≡ Some m') × IsAccessed m at word operation answer m'
 
 -- The number of an access: 91 exactly if the handle holds no maps; otherwise 90 exactly if none has the word; otherwise
 -- 0.

@@ -178,7 +178,7 @@ pub extern "C" fn apd_c_check_within(
     };
     match shown_for(alloc, hook, bytes, shapes, certificate) {
         Err(answer) => answer,
-        Ok(accepted) => code.fill(alloc, Content::Code(accepted)),
+        Ok(accepted) => code.fill_code(alloc, accepted),
     }
 }
 

@@ -153,7 +153,7 @@ pub extern "C" fn apd_c_verify_limited(
     };
     match asked(alloc, hook, bytes, shapes, limits) {
         Err(answer) => answer,
-        Ok(accepted) => code.fill(alloc, Content::Code(accepted)),
+        Ok(accepted) => code.fill_code(alloc, accepted),
     }
 }
 

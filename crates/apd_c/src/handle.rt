@@ -20,13 +20,13 @@ use std::marker::Model;
 pub enum Content {
     /// The content of an empty handle, and of a box before it has another. No full handle holds it.
     Nothing,
-    /// An admitted program.
-    Code(Accepted),
+    /// An admitted program. Programs, maps and links are boxed, so that a `Content` stays small.
+    Code(Box<Accepted>),
     /// The words of maps.
-    Maps(Maps),
+    Maps(Box<Maps>),
     /// Bytes that C reads by `apd_c_read`.
     Bytes(Vec<u8>),
-    /// Eight shards and their programs, boxed so that a `Content` stays small.
+    /// Eight shards and their programs.
     Link(Box<AccessPoint>),
     /// The outputs of an event.
     Outs(Outputs),

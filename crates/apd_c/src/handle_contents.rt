@@ -4,10 +4,14 @@ ghost use Rattle.std.specs.Prelude.{◌≡◌, ◌≢◌, ◌⊎◌, ◌↔◌, 
 ghost use Rattle.std.specs.Option.{option_map};
 ghost use Rattle.apd_c.specs.Held.{held};
 ghost use Rattle.apd_c.specs.Answers.{answer};
+ghost use Rattle.apd_c.specs.Code.{code_of};
+ghost use Rattle.apd_c.specs.Words.{maps_of};
 
 use crate::answer::{Answer, NO_MEMORY};
 use crate::handle::{Content, Handle};
 use crate::loose::Loose;
+use crate::maps::Maps;
+use bpf_machine::Accepted;
 use std::alloc::Global;
 use std::mem::replace;
 
@@ -54,6 +58,32 @@ impl Handle {
                 self.put(boxed);
                 Answer::of(0)
             }
+        }
+    }
+
+    /// Fills an empty handle with a program. 40: an allocation failed, and it stays empty.
+    pub(crate) fn fill_code(&mut self, alloc: Global, accepted: Accepted) -> Answer
+        requires empty { held self.old ≡ None }
+        ensures filled { result.number ≡ 0 → code_of (held self.new) ≡ Some accepted }
+        ensures refused { result.number ≢ 0 → held self.new ≡ None }
+        ensures number { (result ≡ answer 0) ⊎ (result ≡ answer 40) }
+    {
+        match Box::new(alloc, accepted) {
+            Err(_) => Answer::of(NO_MEMORY),
+            Ok(boxed) => self.fill(alloc, Content::Code(boxed)),
+        }
+    }
+
+    /// Fills an empty handle with maps. 40: an allocation failed, and it stays empty.
+    pub(crate) fn fill_maps(&mut self, alloc: Global, maps: Maps) -> Answer
+        requires empty { held self.old ≡ None }
+        ensures filled { result.number ≡ 0 → maps_of (held self.new) ≡ Some maps }
+        ensures refused { result.number ≢ 0 → held self.new ≡ None }
+        ensures number { (result ≡ answer 0) ⊎ (result ≡ answer 40) }
+    {
+        match Box::new(alloc, maps) {
+            Err(_) => Answer::of(NO_MEMORY),
+            Ok(boxed) => self.fill(alloc, Content::Maps(boxed)),
         }
     }
 }

@@ -21,11 +21,11 @@ use bpf_regions::Hook;
 use std::alloc::Global;
 
 /// Takes a program and its box out of the handle that holds them, which is then empty.
-fn take_code(alloc: Global, handle: &mut Handle) -> Option<(Box<Content>, Accepted)>
+fn take_code(alloc: Global, handle: &mut Handle) -> Option<(Box<Content>, Box<Accepted>)>
     ensures some { IfSome result (λ t. held handle.old ≡ Some (CodeContent t.1)) }
     ensures emptied { IfSome result (λ t. held handle.new ≡ None) }
     ensures none { result ≡ None → held handle.new ≡ held handle.old }
-    ensures code { option_map (λ t. t.1) result ≡ code_of (held handle.old) }
+    ensures code { option_map (λ t. t.1.value) result ≡ code_of (held handle.old) }
 {
     match handle.take(alloc) {
         None => None,
@@ -44,12 +44,12 @@ fn take_code(alloc: Global, handle: &mut Handle) -> Option<(Box<Content>, Accept
 fn put(
     access_point: &mut AccessPoint,
     hook: Hook,
-    accepted: Accepted,
-) -> Result<(), (u32, Accepted)>
-    ensures ok { OnOk result (Puts hook accepted access_point.old access_point.new) }
+    accepted: Box<Accepted>,
+) -> Result<(), (u32, Box<Accepted>)>
+    ensures ok { OnOk result (Puts hook accepted.value access_point.old access_point.new) }
     ensures err { OnErr result (access_point.new ≡ access_point.old) }
     ensures back { IfErr result (λ e. (e.0 ≢ 0) × (e.1 ≡ accepted)) }
-    ensures number { IsPutNumber (number_of hook) accepted access_point.old (number_with result) }
+    ensures number { IsPutNumber (number_of hook) accepted.value access_point.old (number_with result) }
 {
     if accepted.hook() != hook {
         return Err((OTHER_HOOK, accepted));
@@ -60,17 +60,21 @@ fn put(
     ) {
         return Err((OTHER_MAPS, accepted));
     }
-    access_point.put(hook, Some(accepted));
+    access_point.put(hook, Some(Box::into_inner(accepted)));
     Ok(())
 }
 
 /// The same if a content is an access point.
-fn put_in(content: &mut Content, hook: Hook, accepted: Accepted) -> Result<(), (u32, Accepted)>
-    ensures ok { OnOk result (HasPut hook accepted (Some content.old) (Some content.new)) }
+fn put_in(
+    content: &mut Content,
+    hook: Hook,
+    accepted: Box<Accepted>,
+) -> Result<(), (u32, Box<Accepted>)>
+    ensures ok { OnOk result (HasPut hook accepted.value (Some content.old) (Some content.new)) }
     ensures err { OnErr result (content.new ≡ content.old) }
     ensures back { IfErr result (λ e. (e.0 ≢ 0) × (e.1 ≡ accepted)) }
     ensures number { UnlessSome (link_of (Some content.old)) 91
-        (IsPutNumber (number_of hook) accepted)
+        (IsPutNumber (number_of hook) accepted.value)
         (number_with result) }
 {
     match content {
@@ -80,12 +84,12 @@ fn put_in(content: &mut Content, hook: Hook, accepted: Accepted) -> Result<(), (
 }
 
 /// The same if a handle holds an access point.
-fn put_at(link: &mut Handle, hook: u32, accepted: Accepted) -> Result<(), (u32, Accepted)>
+fn put_at(link: &mut Handle, hook: u32, accepted: Box<Accepted>) -> Result<(), (u32, Box<Accepted>)>
     ensures ok { OnOk result
-        ((h : AHook) × (hook ≡ number_of h) × HasPut h accepted (held link.old) (held link.new)) }
+        ((h : AHook) × (hook ≡ number_of h) × HasPut h accepted.value (held link.old) (held link.new)) }
     ensures err { OnErr result (held link.new ≡ held link.old) }
     ensures back { IfErr result (λ e. (e.0 ≢ 0) × (e.1 ≡ accepted)) }
-    ensures number { IsPutAtNumber hook accepted (held link.old) (number_with result) }
+    ensures number { IsPutAtNumber hook accepted.value (held link.old) (number_with result) }
 {
     let Some(hook) = hook_of(hook) else {
         return Err((OUT_OF_LIMITS, accepted));
@@ -110,7 +114,7 @@ pub extern "C" fn apd_c_link_load(
     code: &mut Handle,
 ) -> u32
     ensures loaded { result ≡ 0 → (h : AHook) × (hook ≡ number_of h)
-        × (a : Verified) × (held code.old ≡ Some (CodeContent a)) × HasPut h a (held link.old) (held link.new) }
+        × (a : Verified) × (code_of (held code.old) ≡ Some a) × HasPut h a (held link.old) (held link.new) }
     ensures emptied { result ≡ 0 → held code.new ≡ None }
     ensures link { result ≢ 0 → held link.new ≡ held link.old }
     ensures code { result ≢ 0 → held code.new ≡ held code.old }

@@ -5,17 +5,19 @@ ghost use Rattle.bpf_helpers.specs.Hooked.{IsFitting, shapes_of};
 
 use ap_tables::ApTables;
 use bpf_helpers::WorkerState;
+use bpf_machine::Machine;
 use bpf_regions::Shapes;
 use shared_maps::MapFault;
 use std::alloc::Global;
 
-/// The words of maps, with a seat for the runs of programs and a seat for C.
+/// The words of maps, with a seat for the runs of programs and a seat for C, and the machine of these runs.
 #[derive(Drop)]
 pub struct Maps {
     pub shapes: Shapes,
     pub tables: ApTables,
     pub state: WorkerState,
     pub hand: WorkerState,
+    pub machine: Machine,
     pub ghost for_maps: { shapes ≡ shapes_of tables.maps },
     pub ghost fitting: { IsFitting tables.maps 0 state.seats },
     pub ghost own: { IsFitting tables.maps 0 hand.seats },
@@ -35,6 +37,7 @@ impl Maps {
             tables,
             state,
             hand,
+            machine: Machine::new(),
         })
     }
 }

@@ -10,7 +10,7 @@ use crate::handle::{Content, Handle};
 use crate::maps::Maps;
 use arrayvec::ArrayVec;
 use bpf_helpers::{HookPort, WorkerView};
-use bpf_machine::{Accepted, Exit, run_noting};
+use bpf_machine::{Accepted, Exit};
 use bpf_regions::{Context, Frame, Shape};
 
 /// A program's inputs besides its frame and its maps: the clock, how many stations are associated (at most 2007), and
@@ -84,9 +84,8 @@ fn run_over(accepted: &Accepted, maps: &mut Maps, frame: &Frame, given: &Given, 
     let mut port = CallPort {
         port: HookPort { view, state },
     };
-    let mut notes = ArrayVec::new();
-    let exit = run_noting(accepted, frame, &context, &mut port, &mut notes);
-    tell(exit, &notes, report);
+    let exit = maps.machine.run(accepted, frame, &context, &mut port);
+    tell(exit, maps.machine.notes(), report);
 }
 
 /// Runs a program on a frame over its maps, and returns the number.

@@ -136,7 +136,7 @@ pub extern "C" fn apd_c_maps(
     }
     match made(alloc, shapes, draw) {
         Err(number) => number,
-        Ok(words) => maps.fill(alloc, Content::Maps(words)).number,
+        Ok(words) => maps.fill_maps(alloc, words).number,
     }
 }
 

@@ -1,4 +1,4 @@
--- The digits of an address, in one piece and octet by octet.
+-- Hex digits: of an address octet by octet, and of bytes piece by piece.
 use Rattle.std.proofs.Common.{◌≡◌, ◌<◌, ◌==◌, ◌&&◌, ◌/◌, ◌%◌, ◌++◌, ◌∙◌, ℕ, Bool, true, false, List, [], ◌∷◌, zero, suc, inl, inr, refl, sym, ap, arith, get_or, length, slice_index, take, drop}
 use Rattle.std.proofs.lemmas.Bool.{and_parts, cases_lt, eqb-true, ltb-true}
 use Rattle.std.proofs.lemmas.List.{take-append-drop}
@@ -14,23 +14,24 @@ use Rattle.mac_types.specs.Texts.{address_text}
 abbrev alike : ℕ → Bool
 alike d = slice_index lower_digits d == digit_glyph false d
 
-abbrev all_alike : ℕ → Bool
-all_alike zero = true
-all_alike (suc n) = alike n && all_alike n
+-- whether a test holds of all numbers below n, which computes
+abbrev holds_below : (ℕ → Bool) → ℕ → Bool
+holds_below test zero = true
+holds_below test (suc n) = test n && holds_below test n
 
-alike-at : (n d : ℕ) → all_alike n ≡ true → d < n → alike d ≡ true
-alike-at zero d h lt = absurd (omega arith)
-alike-at (suc n) d h lt =
-    let parts = and_parts (alike n) (all_alike n) h in
+held-at : (test : ℕ → Bool) (n d : ℕ) → holds_below test n ≡ true → d < n → test d ≡ true
+held-at test zero d h lt = absurd (omega arith)
+held-at test (suc n) d h lt =
+    let parts = and_parts (test n) (holds_below test n) h in
     elim (cases_lt d n) [
-      | inl below ↦ alike-at n d parts.1 below
+      | inl below ↦ held-at test n d parts.1 below
       | inr top ↦
           let e : d ≡ n = omega arith in
           rw e parts.0
     ]
 
 digit : (d : ℕ) → d < 16 → slice_index lower_digits d ≡ digit_glyph false d
-digit d small = eqb-true (slice_index lower_digits d) (digit_glyph false d) (alike-at 16 d refl small)
+digit d small = eqb-true (slice_index lower_digits d) (digit_glyph false d) (held-at alike 16 d refl small)
 
 pub in_one_piece : (octets : List ℕ) → ((i : ℕ) → get_or octets i 0 < 256) → encode_lower octets ≡ address_text octets
 unfolding encode_with
@@ -42,26 +43,11 @@ in_one_piece (o ∷ octets) h =
 abbrev is_small : ℕ → Bool
 is_small d = ltb (get_or lower_digits d 0) 128
 
-abbrev all_small : ℕ → Bool
-all_small zero = true
-all_small (suc n) = is_small n && all_small n
-
-small-at : (n d : ℕ) → all_small n ≡ true → d < n → is_small d ≡ true
-small-at zero d h lt = absurd (omega arith)
-small-at (suc n) d h lt =
-    let parts = and_parts (is_small n) (all_small n) h in
-    elim (cases_lt d n) [
-      | inl below ↦ small-at n d parts.1 below
-      | inr top ↦
-          let e : d ≡ n = omega arith in
-          rw e parts.0
-    ]
-
 -- digits are ASCII
 pub are_ascii : (bytes : List ℕ) → IsAscii (encode_lower bytes)
 are_ascii bytes =
     IsAscii-encode_with lower_digits bytes
-    (IsAscii-from_reads lower_digits 16 (omega arith) (λ d lt. ltb-true (get_or lower_digits d 0) 128 (small-at 16 d refl lt)))
+    (IsAscii-from_reads lower_digits 16 (omega arith) (λ d lt. ltb-true (get_or lower_digits d 0) 128 (held-at is_small 16 d refl lt)))
 
 -- the digits of two pieces, one after the other
 appended : (t xs ys : List ℕ) → encode_with t (xs ++ ys) ≡ encode_with t xs ++ encode_with t ys

@@ -6,7 +6,7 @@ use crate::asked::Asked;
 use crate::clock::{Work, least, print_each};
 use crate::programs::{of_code, verified};
 use bpf_machine::limited_run::probe;
-use bpf_machine::{Accepted, Bare, ListPort, Probe, run};
+use bpf_machine::{Accepted, Bare, ListPort, Machine, Probe};
 use bpf_regions::{Context, Frame};
 use std::alloc::Global;
 use std::io::Input;
@@ -25,7 +25,8 @@ fn datagram() -> [u8; 64] {
     bytes
 }
 
-/// What is measured: a whole run, a run on the tagged machine, or the entry of a run with its first step.
+/// What is measured: a whole run on a machine that all runs share, a run on the tagged machine, or the entry of a run
+/// with its first step.
 #[derive(Clone, Copy)]
 enum Way {
     Run,
@@ -40,14 +41,20 @@ struct Running<'a, 'f> {
     accepted: &'a Accepted,
     frame: Frame<'f>,
     context: Context,
+    machine: Machine,
 }
 
 /// R0 and the steps of a whole run.
 #[inline(never)]
-fn ran(accepted: &Accepted, frame: &Frame<'_>, context: &Context) -> (u64, u32) {
+fn ran(
+    machine: &mut Machine,
+    accepted: &Accepted,
+    frame: &Frame<'_>,
+    context: &Context,
+) -> (u64, u32) {
     let mut port = ListPort::new(accepted.program().shapes(), &[]);
-    let outcome = run(accepted, frame, context, &mut port);
-    (outcome.r0, outcome.steps)
+    let exit = machine.run(accepted, frame, context, &mut port);
+    (exit.r0, exit.steps)
 }
 
 /// R0 of a run on the tagged machine.
@@ -73,7 +80,7 @@ fn entered(accepted: &Accepted, frame: &Frame<'_>, context: &Context) -> u64 {
 impl Work for Running<'_, '_> {
     fn once(&mut self) -> u64 {
         match self.way {
-            Way::Run => ran(self.accepted, &self.frame, &self.context).0,
+            Way::Run => ran(&mut self.machine, self.accepted, &self.frame, &self.context).0,
             Way::Probe => probed(self.accepted, &self.frame, &self.context),
             Way::Enter => entered(self.accepted, &self.frame, &self.context),
         }
@@ -90,9 +97,10 @@ fn measure<R: Clock + Eprint>(
     let bytes = datagram();
     let frame = Frame::new(&bytes)?;
     let context = Context::new([0; 32]);
+    let mut machine = Machine::new();
     let steps = match way {
         Way::Enter => 1,
-        _ => u64::from(ran(accepted, &frame, &context).1),
+        _ => u64::from(ran(&mut machine, accepted, &frame, &context).1),
     };
     let times = (size.choose(200_000, 20_000) / steps.max(20)).max(1);
     let mut work = Running {
@@ -100,6 +108,7 @@ fn measure<R: Clock + Eprint>(
         accepted,
         frame,
         context,
+        machine,
     };
     let (nanos, sum) = least(rt, &mut work, times, size.choose(500, 2));
     print_each(rt, "  a time", nanos, times, sum);

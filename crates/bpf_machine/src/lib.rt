@@ -1,10 +1,10 @@
-//! Programs that are safe to run, and whole runs: `run`, `trace` and `limited_run::probe`.
+//! Programs that are safe to run, and whole runs: `Machine::run`, `run`, `trace` and `limited_run::probe`.
 //!
-//! The crate depends on `bpf_bare`, for `run` and `trace`, and on `bpf_tagged`, for `probe`. An
-//! `Accepted` is safe within its budget, by its type invariant. `run` returns R0, the steps and the
-//! first 16 notes of the run that the definition gives for the port's answers, with each query made
-//! once and in order; it allocates nothing and performs no checks. `Bare` is the machine of `run`,
-//! one step at a time. `probe` runs any program, to its end, its fault or a limit of steps.
+//! The crate depends on `bpf_bare`, for `Machine`, `run` and `trace`, and on `bpf_tagged`, for `probe`. An `Accepted` is
+//! safe within its budget, by its type invariant. `Machine::run` returns R0 and the steps, and keeps the first 16 notes,
+//! of the run that the definition gives for the port's answers, with each query made once and in order; it allocates
+//! nothing and performs no checks. `run` does so on a machine of its own. `Bare` is the machine of `run`, one step at a
+//! time. `probe` runs any program, to its end, its fault or a limit of steps.
 #![tactic(auto)]
 
 pub mod accepted;
@@ -24,4 +24,4 @@ pub use bpf_tagged::Port;
 pub use list_port::ListPort;
 pub use logged_run::trace;
 pub use outcome::{Exit, Outcome, Probe, Step};
-pub use whole_run::{run, run_noting};
+pub use whole_run::{Machine, run};

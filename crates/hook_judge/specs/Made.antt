@@ -1,5 +1,5 @@
 -- Runs and numbers as contracts see them.
-use Rattle.std.specs.Prelude.{◌≡◌, ℕ}
+use Rattle.std.specs.Prelude.{◌≡◌}
 use Rattle.hook_judge.specs.Counts.{Counts, Made}
 use Rattle.hook_judge.specs.declared.run.Figures.{Figures}
 use Rattle.hook_judge.specs.declared.run.ProgramRun.{ProgramRun}

@@ -1,5 +1,4 @@
 -- What was counted of each hook's program.
-use Rattle.std.specs.Prelude.{◌≡◌, ℕ}
 use Rattle.bpf_regions.specs.declared.hooks.Hook.{Hook}
 use Rattle.bpf_regions.specs.declared.hooks.Hook.TheVariants.{Association, Addba, Data}
 use Rattle.hook_judge.specs.Counts.{Counts, Made, for_load, no_runs, sum_of, with_run}

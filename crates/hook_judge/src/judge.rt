@@ -66,8 +66,8 @@ impl SetJudge<'_, '_, '_> {
             Some(accepted) => {
                 let _safe = accepted.program();
                 let load = self.set.load_number(hook);
-                let outcome = self.state.run(accepted, load, self.view, frame, context);
-                return (outcome.r0, outcome.steps);
+                let exit = self.state.run(accepted, load, self.view, frame, context);
+                return (exit.r0, exit.steps);
             }
         }
     }

@@ -9,7 +9,7 @@ ghost use Rattle.apd_driver.specs.Lines.{drop_text, json_text, line_of, notice_l
 use crate::reports::json::{append_drop_json, append_loaded_json, append_outs_json};
 use crate::reports::notice::{Dropped, Notice, notice_of};
 use crate::reports::report::{Form, Report, Style, Told};
-use crate::reports::words::{CounterWords, TidWord, append_bytes, append_digits, append_octets};
+use crate::reports::words::{CounterWords, TidWord, append_bytes, append_digits};
 use ap_books::Totals;
 use ap_model::{Out, Up};
 use std::alloc::{AllocError, Global};
@@ -32,9 +32,9 @@ fn append_addresses(text: &mut String, line: u64, up: &Up) -> Result<(), AllocEr
         (then (address_text up.now.source) (address_text up.now.destination)))) }
 {
     write!(text, "{line} up ")?;
-    append_octets(text, up.source.octets().as_slice())?;
+    append_digits(text, up.source.octets().as_slice())?;
     text.push_str(" ")?;
-    append_octets(text, up.destination.octets().as_slice())
+    append_digits(text, up.destination.octets().as_slice())
 }
 
 fn append_up(text: &mut String, line: u64, up: &Up) -> Result<(), AllocError>

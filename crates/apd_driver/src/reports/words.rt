@@ -41,10 +41,11 @@ fn append_piece(text: &mut String, piece: &[u8]) -> Result<(), AllocError>
     text.push_str(digits)
 }
 
-/// Appends bytes as hex digits. It allocates nothing but the text, since a run prints three such words for each frame
-/// passed up.
+/// Appends bytes as hex digits, which is how an address is written, too. It allocates nothing but the text, since a run
+/// prints three such words for each frame passed up.
 pub(crate) fn append_digits(text: &mut String, bytes: &[u8]) -> Result<(), AllocError>
     ensures ok { OnOk result (string_bytes text.new ≡ string_bytes text.old ++ encode_lower bytes.now) }
+    ensures octets { OnOk result (string_bytes text.new ≡ string_bytes text.old ++ address_text bytes.now) }
 {
     let mut rest = bytes;
     while !rest.is_empty() {
@@ -53,13 +54,6 @@ pub(crate) fn append_digits(text: &mut String, bytes: &[u8]) -> Result<(), Alloc
         rest = later;
     }
     Ok(())
-}
-
-/// Appends the octets of an address as hex digits.
-pub(crate) fn append_octets(text: &mut String, octets: &[u8]) -> Result<(), AllocError>
-    ensures ok { OnOk result (string_bytes text.new ≡ string_bytes text.old ++ address_text octets.now) }
-{
-    append_digits(text, octets)
 }
 
 /// Appends bytes as hex digits, or a dash.

@@ -1,7 +1,7 @@
-use Rattle.std.proofs.Common.{◌++◌, ◌∙◌, sym, ap, string_bytes, length}
+use Rattle.std.proofs.Common.{◌++◌, ◌∙◌, sym, ap, string_bytes, length, arith}
 use Rattle.std.proofs.lemmas.Bool.{eqb-true}
 use Rattle.std.proofs.lemmas.List.{append_assoc, append-nil}
-use Rattle.apd_driver.proofs.Digits.{in_two, of_none}
+use Rattle.apd_driver.proofs.Digits.{in_one_piece, in_two, of_none}
 use Rattle.apd_driver.proofs.reports.words.append_digits.Goals as goal
 
 pub loop-rest-preserved : goal.loop-rest-preserved
@@ -12,8 +12,10 @@ loop-rest-preserved c =
 pub returns : goal.returns
 returns c =
     let none = of_none c.loop-rest.rest.now (eqb-true (length c.loop-rest.rest.now) 0 (sym c.loop-rest-test.ensures)) in
+    let appended = sym (append-nil (string_bytes c.loop-rest.text))
+    ∙ ap (λ digits. string_bytes c.loop-rest.text ++ digits) (sym none)
+    ∙ c.loop-rest.invariant in
     record {
-      ok = sym (append-nil (string_bytes c.loop-rest.text))
-          ∙ ap (λ digits. string_bytes c.loop-rest.text ++ digits) (sym none)
-          ∙ c.loop-rest.invariant;
+      ok = appended;
+      octets = rw (← in_one_piece c.args.bytes.now (λ i. omega (arith, c.type_inv.bytes i))) appended;
     }

@@ -8,14 +8,18 @@ use Rattle.hook_judge.proofs.state.CountedState.run.Goals as goal
 
 pub shape_of-self-inside : goal.shape_of-self-inside
 shape_of-self-inside c =
-    sym (asked_of_state _ c.run_noting-r0.new.port _ c.run_noting-r0.ensures.run.listed).0.state
+    sym (asked_of_state _ c.run-exit.new.port _ c.run-exit.ensures.run.listed).0.state
 
 pub returns-clause-run : goal.returns-clause-run
 returns-clause-run c =
-    let made = ran_by_state _ _ c.run_noting-r0.new.port (with_notes c.run_noting-r0.result c.run_noting-r0.new.notes) c.run_noting-r0.ensures.run c.run_noting-r0.new.port.state.now (λ same. refl) in
-    subst (λ (s : Counted). Ran (Gives (given_by c.args.view)) (setting_of c.args.accepted.now.code c.args.frame.now c.args.context.now) (held_of s) c.run_noting-r0.new.port.state.now (with_notes c.run_noting-r0.result c.run_noting-r0.new.notes)) c.self.view_is made
+    let made = ran_by_state _ _ c.run-exit.new.port (with_notes c.run-exit.result c.run-exit.new.self) c.run-exit.ensures.run c.run-exit.new.port.state.now (λ same. refl) in
+    record {
+      notes = c.run-exit.new.self;
+      ran = subst (λ (s : Counted). Ran (Gives (given_by c.args.view)) (setting_of c.args.accepted.now.code c.args.frame.now c.args.context.now) (held_of s) c.run-exit.new.port.state.now (with_notes c.run-exit.result c.run-exit.new.self)) c.self.view_is made;
+      counted = search rules;
+    }
 
 pub returns-clause-fitting : goal.returns-clause-fitting
 returns-clause-fitting c =
-    let kept = fitting_after _ _ c.run_noting-r0.new.port (with_notes c.run_noting-r0.result c.run_noting-r0.new.notes) c.run_noting-r0.ensures.run c.run_noting-r0.new.port.state.now (λ same. refl) in
+    let kept = fitting_after _ _ c.run-exit.new.port (with_notes c.run-exit.result c.run-exit.new.self) c.run-exit.ensures.run c.run-exit.new.port.state.now (λ same. refl) in
     search (rules, kept)
