@@ -1,15 +1,15 @@
 //! Reports as text.
 
-ghost use Rattle.std.specs.Prelude.{◌≡◌, ◌++◌, IfOk, Some, codes, decimal, string_bytes};
+ghost use Rattle.std.specs.Prelude.{◌≡◌, ◌++◌, ◌∷◌, [], IfOk, Some, codes, decimal, string_bytes};
 ghost use Rattle.mac_types.specs.Texts.{address_text};
-ghost use Rattle.apd_driver.specs.Words.{then, out_words};
+ghost use Rattle.apd_driver.specs.Words.{then, out_words, tid_word};
 ghost use Rattle.apd_driver.specs.Colours.{beginning, colour_in, ending};
 ghost use Rattle.apd_driver.specs.Lines.{drop_text, json_text, line_of, notice_line, notice_text, noticed_out, noticed_outs, noticed_text, outs_text, report_text, styled_text, told_text, told_words, totals_text};
 
 use crate::reports::json::{append_drop_json, append_loaded_json, append_outs_json};
 use crate::reports::notice::{Dropped, Notice, notice_of};
 use crate::reports::report::{Form, Report, Style, Told};
-use crate::reports::words::{CounterWords, TidWord, append_bytes, append_digits};
+use crate::reports::words::{CounterWords, append_bytes, append_digits, append_number, append_tid};
 use ap_books::Totals;
 use ap_model::{Out, Up};
 use std::alloc::{AllocError, Global};
@@ -20,7 +20,8 @@ fn append_send(text: &mut String, line: u64, frame: &[u8]) -> Result<(), AllocEr
     ensures ok { IfOk result (λ _. string_bytes text.new ≡ string_bytes text.old
         ++ line_of line (out_words (Out.Send frame.now))) }
 {
-    write!(text, "{line} send ")?;
+    append_number(text, line)?;
+    text.push_str(" send ")?;
     append_digits(text, frame)?;
     text.push_str("\n")
 }
@@ -31,10 +32,26 @@ fn append_addresses(text: &mut String, line: u64, up: &Up) -> Result<(), AllocEr
         ++ then (decimal line) (then (codes "up")
         (then (address_text up.now.source) (address_text up.now.destination)))) }
 {
-    write!(text, "{line} up ")?;
+    append_number(text, line)?;
+    text.push_str(" up ")?;
     append_digits(text, up.source.octets().as_slice())?;
     text.push_str(" ")?;
     append_digits(text, up.destination.octets().as_slice())
+}
+
+/// Appends the TID, the number and the mark of data that is passed up, with a space before and behind each.
+fn append_numbers(text: &mut String, up: &Up) -> Result<(), AllocError>
+    ensures ok { IfOk result (λ _. string_bytes text.new ≡ string_bytes text.old
+        ++ 32 ∷ then (tid_word up.now.tid)
+        (then (decimal up.now.number) (then (decimal up.now.mark) []))) }
+{
+    text.push_str(" ")?;
+    append_tid(text, up.tid)?;
+    text.push_str(" ")?;
+    append_number(text, up.number.number())?;
+    text.push_str(" ")?;
+    append_number(text, up.mark)?;
+    text.push_str(" ")
 }
 
 fn append_up(text: &mut String, line: u64, up: &Up) -> Result<(), AllocError>
@@ -42,7 +59,7 @@ fn append_up(text: &mut String, line: u64, up: &Up) -> Result<(), AllocError>
         ++ line_of line (out_words (Out.Up up.now))) }
 {
     append_addresses(text, line, up)?;
-    write!(text, " {} {} {} ", TidWord(up.tid), up.number, up.mark)?;
+    append_numbers(text, up)?;
     append_bytes(text, up.body.bytes())?;
     text.push_str("\n")
 }

@@ -6,31 +6,34 @@ ghost use Rattle.mac_types.specs.Texts.{address_text};
 ghost use Rattle.apd_driver.specs.Words.{tid_word, bytes_word, counter_words};
 
 use ap_books::Totals;
+use itoa::{Buffer, Integer};
 use mac_types::Tid;
 use std::alloc::AllocError;
 use std::fmt;
 
-/// A TID, or a dash.
-#[derive(Clone, Copy)]
-pub(crate) struct TidWord(pub Option<Tid>);
+/// Appends a number in decimal digits, by a buffer on the stack.
+pub(crate) fn append_number<I: Integer>(text: &mut String, number: I) -> Result<(), AllocError>
+    ensures ok { OnOk result (string_bytes text.new ≡ string_bytes text.old ++ I.text number) }
+{
+    text.push_str(Buffer::new().format(number))
+}
 
-impl fmt::Display for TidWord {
-    ghost output = { λ t. Some (tid_word t.0) };
-
-    fn fmt<W: fmt::Write>(&self, f: &mut fmt::Formatter<W>) -> fmt::Result {
-        match self.0 {
-            None => write!(f, "-"),
-            Some(tid) => write!(f, "{tid}"),
-        }
+/// Appends a TID, or a dash.
+pub(crate) fn append_tid(text: &mut String, tid: Option<Tid>) -> Result<(), AllocError>
+    ensures ok { OnOk result (string_bytes text.new ≡ string_bytes text.old ++ tid_word tid) }
+{
+    match tid {
+        None => text.push_str("-"),
+        Some(tid) => append_number(text, tid.number()),
     }
 }
 
-/// Appends at most 128 bytes as hex digits, by a buffer on the stack.
+/// Appends at most 64 bytes as hex digits, by a buffer on the stack.
 fn append_piece(text: &mut String, piece: &[u8]) -> Result<(), AllocError>
-    requires short { length piece.now ≤ 128 }
+    requires short { length piece.now ≤ 64 }
     ensures ok { OnOk result (string_bytes text.new ≡ string_bytes text.old ++ encode_lower piece.now) }
 {
-    let mut buffer = [0u8; 256];
+    let mut buffer = [0u8; 128];
     let digits = &mut buffer[..2 * piece.len()];
     let Ok(()) = hex::encode_to_slice(piece, digits) else {
         unreachable!()
@@ -49,7 +52,7 @@ pub(crate) fn append_digits(text: &mut String, bytes: &[u8]) -> Result<(), Alloc
 {
     let mut rest = bytes;
     while !rest.is_empty() {
-        let (piece, later) = rest.split_at(rest.len().min(128));
+        let (piece, later) = rest.split_at(rest.len().min(64));
         append_piece(text, piece)?;
         rest = later;
     }
