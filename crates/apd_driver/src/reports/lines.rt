@@ -39,7 +39,7 @@ fn append_addresses(text: &mut String, line: u64, up: &Up) -> Result<(), AllocEr
     append_digits(text, up.destination.octets().as_slice())
 }
 
-/// Appends the TID, the number and the mark of data that is passed up, with a space before and behind each.
+/// Appends the TID, the number and the mark of data that is passed up, with a space before each and one at the end.
 fn append_numbers(text: &mut String, up: &Up) -> Result<(), AllocError>
     ensures ok { IfOk result (λ _. string_bytes text.new ≡ string_bytes text.old
         ++ 32 ∷ then (tid_word up.now.tid)
