@@ -193,6 +193,8 @@ uint32_t apd_c_link_load(apd_handle *link, uint32_t hook, apd_handle *code);
 uint32_t apd_c_link_unload(apd_handle *link, uint32_t hook);
 uint32_t apd_c_link_frame(apd_handle *link, apd_handle *maps, apd_handle *outs, const uint8_t *bytes, size_t length,
                           uint64_t user);
+uint32_t apd_c_link_frame_into(apd_handle *link, apd_handle *maps, apd_handle *outs, const uint8_t *bytes, size_t length,
+                               uint64_t user);
 uint32_t apd_c_link_tick(apd_handle *link, apd_handle *maps, apd_handle *outs, uint32_t units, uint64_t user);
 uint32_t apd_c_link_kick(apd_handle *link, apd_handle *maps, apd_handle *outs, const apd_station *station,
                          uint16_t reason, uint64_t user);
@@ -477,6 +479,16 @@ APD_INLINE uint32_t apd_link_frame(apd_handle *link, apd_handle *maps, apd_handl
     if (!apd_are_three(link, maps, outs) || (!bytes && length))
         return APD_NULL;
     return apd_c_link_frame(link, maps, outs, apd_some_bytes(bytes), length, user);
+}
+
+/* apd_link_frame into a handle that is empty or holds the outs of an earlier event, which those of this one replace: so frames
+   that come one after another need no apd_free between them. What is refused leaves the earlier outs there. */
+APD_INLINE uint32_t apd_link_frame_into(apd_handle *link, apd_handle *maps, apd_handle *outs, const uint8_t *bytes,
+                                           size_t length, uint64_t user)
+{
+    if (!apd_are_three(link, maps, outs) || (!bytes && length))
+        return APD_NULL;
+    return apd_c_link_frame_into(link, maps, outs, apd_some_bytes(bytes), length, user);
 }
 
 /* As many units of time pass. */

@@ -153,7 +153,7 @@ static void bench_frames(void)
     };
     apd_handle link = APD_EMPTY, maps = APD_EMPTY, outs = APD_EMPTY;
     uint8_t sent[100] = {0};
-    double took = 1e18;
+    double freed = 1e18, replaced = 1e18;
 
     if (apd_link(&link, &network, NULL, 0) || apd_maps(&maps, NULL, 0, 0))
         exit(1);
@@ -172,10 +172,17 @@ static void bench_frames(void)
                 exit(1);
             apd_free(&outs);
         }
+        double middle = now();
+        for (int i = 0; i < 100000; i++)
+            if (apd_link_frame_into(&link, &maps, &outs, sent, sizeof sent, 0))
+                exit(1);
         double end = now();
-        took = end - start < took ? end - start : took;
+        apd_free(&outs);
+        freed = middle - start < freed ? middle - start : freed;
+        replaced = end - middle < replaced ? end - middle : replaced;
     }
-    printf("a frame of data: apd_link_frame and apd_free %.0f ns\n", took / 100000);
+    printf("a frame of data: apd_link_frame and apd_free %.1f ns, apd_link_frame_into %.1f ns\n", freed / 100000,
+           replaced / 100000);
     apd_free(&maps);
     apd_free(&link);
 }

@@ -359,6 +359,13 @@ static void hostile_events(void)
     WANT(apd_link_frame(&link, &maps, &wide, frame, 1, 0), APD_NOT_EMPTY);
     WANT(apd_link_frame(&link, &wide, &outs, frame, 1, 0), APD_OTHER_MAPS);
     WANT(apd_link_frame(&maps, &link, &outs, frame, 1, 0), APD_OTHER_VALUE);
+    WANT(apd_link_frame_into(&link, &maps, NULL, frame, 1, 0), APD_NULL);
+    WANT(apd_link_frame_into(&link, &maps, &link, frame, 1, 0), APD_NULL);
+    WANT(apd_link_frame_into(&link, &maps, &outs, NULL, 1, 0), APD_NULL);
+    WANT(apd_link_frame_into(&link, &maps, &outs, frame, 2401, 0), APD_OUT_OF_LIMITS);
+    WANT(apd_link_frame_into(&link, &maps, &wide, frame, 1, 0), APD_NOT_EMPTY);
+    WANT(apd_link_frame_into(&link, &wide, &outs, frame, 1, 0), APD_OTHER_MAPS);
+    WANT(apd_link_frame_into(&maps, &link, &outs, frame, 1, 0), APD_OTHER_VALUE);
     WANT(apd_link_kick(&link, &maps, &outs, NULL, 1, 0), APD_NULL);
     WANT(apd_link_close(&link, &maps, &outs, &station, 8, 0), APD_OUT_OF_LIMITS);
     WANT(apd_outs(&outs), 0);
@@ -373,6 +380,14 @@ static void hostile_events(void)
     WANT(apd_out_at(&maps, 0).kind, APD_NOTHING);
     WANT(apd_out_bytes(&outs, 0, &byte, 1), 0);
     WANT(byte, 0xee);
+    WANT(apd_link_frame_into(&link, &wide, &outs, frame, 1, 1), APD_OTHER_MAPS);
+    WANT(apd_out_at(&outs, 0).user, UINT64_MAX);
+    WANT(apd_link_frame_into(&link, &maps, &outs, NULL, 0, 1), APD_OK);
+    WANT(apd_outs(&outs), 1);
+    WANT(apd_out_at(&outs, 0).user, 1);
+    apd_free(&outs);
+    WANT(apd_link_frame_into(&link, &maps, &outs, NULL, 0, 2), APD_OK);
+    WANT(apd_out_at(&outs, 0).user, 2);
     apd_free(&outs);
     WANT(apd_link_frame(&link, &maps, &outs, frame, 2400, 0), APD_OK);
     apd_free(&outs);

@@ -110,6 +110,9 @@ static int serve(long refused)
         if (number)
             ok = number == APD_NO_MEMORY && !outs.full && !apd_link_frame(&link, &maps, &outs, frame, length, 7);
         count += apd_outs(&outs);
+        if (ok && !at && apd_link_frame_into(&link, &maps, &outs, frame, length, 8))
+            ok = apd_out_at(&outs, 0).user == 7 && !apd_link_frame_into(&link, &maps, &outs, frame, length, 8);
+        ok = ok && (at || apd_out_at(&outs, 0).user == 8);
         apd_free(&outs);
     }
     number = apd_link_tick(&link, &maps, &outs, 10, 7);

@@ -1,5 +1,5 @@
 -- Events at access points that C keeps.
-use Rattle.std.specs.Prelude.{◌≡◌, ◌≢◌, ◌≤◌, ◌<◌, ℕ, List, length, Option, Some}
+use Rattle.std.specs.Prelude.{◌≡◌, ◌≢◌, ◌≤◌, ◌<◌, ℕ, List, length, Option, Some, None, ⊤}
 use Rattle.ap_model.specs.declared.event.Event.{Event}
 use Rattle.ap_model.specs.declared.event.Event.TheVariants as event
 use Rattle.ap_model.specs.declared.event.Out.{Out}
@@ -7,6 +7,7 @@ use Rattle.ap_single.specs.Leading.{Parts, IsLike, Leads}
 use Rattle.apd_c.specs.declared.events.Happening.{Happening}
 use Rattle.apd_c.specs.declared.events.Happening.TheVariants as happening
 use Rattle.apd_c.specs.declared.handle.Content.{Content}
+use Rattle.apd_c.specs.declared.handle.Content.TheVariants as content
 use Rattle.apd_c.specs.declared.maps.Maps.{Maps}
 use Rattle.apd_c.specs.Answers.{IsDone, Perhaps, Unless, UnlessNone, UnlessSome}
 use Rattle.apd_c.specs.Link.{link_of}
@@ -77,6 +78,21 @@ IsEventNumber link maps outs = UnlessNone outs 92 (Perhaps 40 (IsNumberAt link m
 -- The number of a frame: 90 exactly if it is longer than 2400 bytes; otherwise that of the event.
 abbrev pub IsFrameNumber : List ℕ → Option Content → Option Content → Option Content → ℕ → Type 0
 IsFrameNumber bytes link maps outs = Unless (length bytes ≤ 2400) 90 (IsEventNumber link maps outs)
+
+-- it is empty, or holds outputs
+abbrev pub HasRoom : Option Content → Type 0
+HasRoom None = ⊤
+HasRoom (Some (content.Outs v)) = ⊤
+HasRoom (Some _) = ⊥
+
+-- The number of an event whose outputs replace those of an earlier one: 92 exactly if the handle for them holds something
+-- else; otherwise perhaps 40; otherwise that of the other two.
+abbrev pub IsAgainNumber : Option Content → Option Content → Option Content → ℕ → Type 0
+IsAgainNumber link maps outs = Unless (HasRoom outs) 92 (Perhaps 40 (IsNumberAt link maps))
+
+-- The same of a frame: 90 exactly if it is longer than 2400 bytes.
+abbrev pub IsIntoNumber : List ℕ → Option Content → Option Content → Option Content → ℕ → Type 0
+IsIntoNumber bytes link maps outs = Unless (length bytes ≤ 2400) 90 (IsAgainNumber link maps outs)
 
 -- The number of ending an agreement: 90 exactly if the TID isn't below 8; otherwise that of the event.
 abbrev pub IsCloseNumber : ℕ → Option Content → Option Content → Option Content → ℕ → Type 0

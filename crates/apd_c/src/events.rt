@@ -7,7 +7,7 @@ ghost use Rattle.ap_model.specs.declared.event.Event.TheVariants as event;
 ghost use Rattle.ap_single.specs.Leading.{IsLike, Leads};
 ghost use Rattle.apd_c.specs.Held.{held};
 ghost use Rattle.apd_c.specs.Answers.{UnlessSome, number_in};
-ghost use Rattle.apd_c.specs.Events.{HasLed, HasLedTo, event_of, IsCloseNumber, IsEventNumber, IsFrameNumber, IsLed, IsNumberAt, IsNumberOver, IsSame, Serves, Stays};
+ghost use Rattle.apd_c.specs.Events.{HasLed, HasLedTo, event_of, IsAgainNumber, IsCloseNumber, IsEventNumber, IsFrameNumber, IsIntoNumber, IsLed, IsNumberAt, IsNumberOver, IsSame, Serves, Stays};
 ghost use Rattle.apd_c.specs.Link.{link_of};
 
 use crate::answer::{NO_MEMORY, NOT_EMPTY, OTHER_MAPS, OTHER_VALUE, OUT_OF_LIMITS};
@@ -204,6 +204,51 @@ fn lead_to(
     }
 }
 
+/// The same in the place of the outputs that a content is. 92: it is something else.
+fn lead_again(
+    alloc: Global,
+    link: &mut Handle,
+    maps: &mut Handle,
+    content: &mut Content,
+    given: UserEvent<'_>,
+) -> u32
+    ensures serves { Serves (event_of given.entry.event) given.entry.user (held link.old)
+        (held maps.old) (Some content.old) result
+        (held link.new) (held maps.new) (Some content.new) }
+    ensures number { IsAgainNumber (held link.old) (held maps.old) (Some content.old) result }
+{
+    let UserEvent { event, user } = given;
+    match content {
+        Content::Outs(outs) => match lead_over(alloc, link, maps, event) {
+            Err(number) => number,
+            Ok(list) => {
+                *outs = Outputs { user, list };
+                0
+            }
+        },
+        _ => NOT_EMPTY,
+    }
+}
+
+/// The same of a handle that is empty or holds outputs.
+fn lead_into(
+    alloc: Global,
+    link: &mut Handle,
+    maps: &mut Handle,
+    outs: &mut Handle,
+    given: UserEvent<'_>,
+) -> u32
+    ensures serves { Serves (event_of given.entry.event) given.entry.user (held link.old)
+        (held maps.old) (held outs.old) result
+        (held link.new) (held maps.new) (held outs.new) }
+    ensures number { IsAgainNumber (held link.old) (held maps.old) (held outs.old) result }
+{
+    match outs.lent() {
+        None => lead_to(alloc, link, maps, outs, given),
+        Some(content) => lead_again(alloc, link, maps, content, given),
+    }
+}
+
 /// An access point receives a frame of at most 2400 bytes, without its FCS. Its programs run over the maps of the
 /// second handle. The outputs fill the third, which must be empty; each is read with the number `user`.
 ///
@@ -233,6 +278,33 @@ pub extern "C" fn apd_c_link_frame(
         user,
     };
     lead_to(alloc, link, maps, outs, given)
+}
+
+/// `apd_c_link_frame` with a third handle that is empty or holds the outputs of an earlier event, which those of this
+/// one replace. 92: it holds something else. All but 0 leave it unchanged.
+#[unsafe(no_mangle)]
+pub extern "C" fn apd_c_link_frame_into(
+    alloc: Global,
+    link: &mut Handle,
+    maps: &mut Handle,
+    outs: &mut Handle,
+    bytes: &[u8],
+    user: u64,
+) -> u32
+    ensures serves { Serves (event.Frame bytes.now) user (held link.old) (held maps.old) (held outs.old)
+        result
+        (held link.new) (held maps.new) (held outs.new) }
+    ensures number { IsIntoNumber bytes.now (held link.old) (held maps.old) (held outs.old)
+        result }
+{
+    if bytes.len() > 2400 {
+        return OUT_OF_LIMITS;
+    }
+    let given = UserEvent {
+        event: Happening::Frame(bytes),
+        user,
+    };
+    lead_into(alloc, link, maps, outs, given)
 }
 
 /// `units` units of time pass at all eight shards, or at none. The rest is as for `apd_c_link_frame`.

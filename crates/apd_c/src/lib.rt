@@ -35,7 +35,10 @@ pub use atomics::{
 };
 pub use certificates::{apd_c_certify, apd_c_check, apd_c_check_within, apd_c_read};
 pub use code::{apd_c_budget, apd_c_verify, apd_c_verify_limited, apd_c_verify_within};
-pub use events::{Station, apd_c_link_close, apd_c_link_frame, apd_c_link_kick, apd_c_link_tick};
+pub use events::{
+    Station, apd_c_link_close, apd_c_link_frame, apd_c_link_frame_into, apd_c_link_kick,
+    apd_c_link_tick,
+};
 pub use handle::Handle;
 pub use handle_contents::apd_c_free;
 pub use laws::handles_law;
