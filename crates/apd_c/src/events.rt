@@ -20,7 +20,6 @@ use ap_single::AccessPoint;
 use bpf_helpers::{MapTables, WorkerState};
 use mac_types::{Address, Reason, Tid};
 use std::alloc::Global;
-use std::mem::forget;
 
 /// A station, by its address.
 #[repr(C)]
@@ -65,27 +64,30 @@ fn give(
     }
 }
 
-/// Handles an event, with verdicts over these maps.
+/// Handles an event, with verdicts over these maps. Its outputs replace those of a list.
 fn lead(
     alloc: Global,
     access_point: &mut AccessPoint,
     maps: &mut Maps,
     event: Happening<'_>,
-) -> Result<Vec<Out>, u32>
-    ensures ok { IfOk result (λ outs.
-        IsLed access_point.old maps.old (event_of event.entry) outs.items access_point.new maps.new) }
-    ensures err { IfErr result (λ number. number ≢ 0) }
-    ensures kept { OnErr result (IsLike access_point.old access_point.new
-        × IsSame maps.old maps.new) }
-    ensures number { IsNumberOver maps.old access_point.old (number_in result) }
+    outs: &mut Vec<Out>,
+) -> u32
+    ensures ok { result ≡ 0 →
+        IsLed access_point.old maps.old (event_of event.entry) outs.new.items access_point.new maps.new }
+    ensures kept { result ≢ 0 → IsLike access_point.old access_point.new × IsSame maps.old maps.new }
+    ensures outs { result ≢ 0 → outs.new ≡ outs.old }
+    ensures number { IsNumberOver maps.old access_point.old result }
 {
     if !are_alike(access_point.shapes().as_slice(), maps.shapes.as_slice()) {
-        return Err(OTHER_MAPS);
+        return OTHER_MAPS;
     }
     let tables = maps.tables.maps();
     match give(alloc, access_point, event, tables, &mut maps.state) {
-        None => Err(NO_MEMORY),
-        Some(outs) => Ok(outs),
+        None => NO_MEMORY,
+        Some(list) => {
+            *outs = list;
+            0
+        }
     }
 }
 
@@ -95,19 +97,19 @@ fn lead_in(
     content: &mut Content,
     maps: &mut Maps,
     event: Happening<'_>,
-) -> Result<Vec<Out>, u32>
-    ensures ok { IfOk result (λ outs.
-        HasLed (Some content.old) maps.old (event_of event.entry) outs.items (Some content.new)
-        maps.new) }
-    ensures err { IfErr result (λ number. number ≢ 0) }
-    ensures kept { OnErr result (Stays (Some content.old) (Some content.new)
-        × IsSame maps.old maps.new) }
-    ensures number { UnlessSome (link_of (Some content.old)) 91 (IsNumberOver maps.old)
-        (number_in result) }
+    outs: &mut Vec<Out>,
+) -> u32
+    ensures ok { result ≡ 0 →
+        HasLed (Some content.old) maps.old (event_of event.entry) outs.new.items (Some content.new)
+        maps.new }
+    ensures kept { result ≢ 0 →
+        Stays (Some content.old) (Some content.new) × IsSame maps.old maps.new }
+    ensures outs { result ≢ 0 → outs.new ≡ outs.old }
+    ensures number { UnlessSome (link_of (Some content.old)) 91 (IsNumberOver maps.old) result }
 {
     match content {
-        Content::Link(access_point) => lead(alloc, access_point, maps, event),
-        _ => Err(OTHER_VALUE),
+        Content::Link(access_point) => lead(alloc, access_point, maps, event, outs),
+        _ => OTHER_VALUE,
     }
 }
 
@@ -117,18 +119,18 @@ fn lead_at(
     link: &mut Handle,
     maps: &mut Maps,
     event: Happening<'_>,
-) -> Result<Vec<Out>, u32>
-    ensures ok { IfOk result (λ outs.
-        HasLed (held link.old) maps.old (event_of event.entry) outs.items (held link.new) maps.new) }
-    ensures err { IfErr result (λ number. number ≢ 0) }
-    ensures kept { OnErr result
-        (Stays (held link.old) (held link.new) × IsSame maps.old maps.new) }
-    ensures number { UnlessSome (link_of (held link.old)) 91 (IsNumberOver maps.old)
-        (number_in result) }
+    outs: &mut Vec<Out>,
+) -> u32
+    ensures ok { result ≡ 0 →
+        HasLed (held link.old) maps.old (event_of event.entry) outs.new.items (held link.new) maps.new }
+    ensures kept { result ≢ 0 →
+        Stays (held link.old) (held link.new) × IsSame maps.old maps.new }
+    ensures outs { result ≢ 0 → outs.new ≡ outs.old }
+    ensures number { UnlessSome (link_of (held link.old)) 91 (IsNumberOver maps.old) result }
 {
     match link.lent() {
-        None => Err(OTHER_VALUE),
-        Some(content) => lead_in(alloc, content, maps, event),
+        None => OTHER_VALUE,
+        Some(content) => lead_in(alloc, content, maps, event, outs),
     }
 }
 
@@ -138,17 +140,18 @@ fn lead_on(
     link: &mut Handle,
     content: &mut Content,
     event: Happening<'_>,
-) -> Result<Vec<Out>, u32>
-    ensures ok { IfOk result (λ outs. HasLedTo (event_of event.entry) (held link.old)
-        (Some content.old) outs.items (held link.new) (Some content.new)) }
-    ensures err { IfErr result (λ number. number ≢ 0) }
-    ensures kept { OnErr result (Stays (held link.old) (held link.new)
-        × Stays (Some content.old) (Some content.new)) }
-    ensures number { IsNumberAt (held link.old) (Some content.old) (number_in result) }
+    outs: &mut Vec<Out>,
+) -> u32
+    ensures ok { result ≡ 0 → HasLedTo (event_of event.entry) (held link.old)
+        (Some content.old) outs.new.items (held link.new) (Some content.new) }
+    ensures kept { result ≢ 0 → Stays (held link.old) (held link.new)
+        × Stays (Some content.old) (Some content.new) }
+    ensures outs { result ≢ 0 → outs.new ≡ outs.old }
+    ensures number { IsNumberAt (held link.old) (Some content.old) result }
 {
     match content {
-        Content::Maps(maps) => lead_at(alloc, link, maps, event),
-        _ => Err(OTHER_VALUE),
+        Content::Maps(maps) => lead_at(alloc, link, maps, event, outs),
+        _ => OTHER_VALUE,
     }
 }
 
@@ -158,53 +161,24 @@ fn lead_over(
     link: &mut Handle,
     maps: &mut Handle,
     event: Happening<'_>,
-) -> Result<Vec<Out>, u32>
-    ensures ok { IfOk result (λ outs.
-        HasLedTo (event_of event.entry) (held link.old) (held maps.old) outs.items
-        (held link.new) (held maps.new)) }
-    ensures err { IfErr result (λ number. number ≢ 0) }
-    ensures kept { OnErr result
-        (Stays (held link.old) (held link.new) × Stays (held maps.old) (held maps.new)) }
-    ensures number { IsNumberAt (held link.old) (held maps.old) (number_in result) }
+    outs: &mut Vec<Out>,
+) -> u32
+    ensures ok { result ≡ 0 →
+        HasLedTo (event_of event.entry) (held link.old) (held maps.old) outs.new.items
+        (held link.new) (held maps.new) }
+    ensures kept { result ≢ 0 →
+        Stays (held link.old) (held link.new) × Stays (held maps.old) (held maps.new) }
+    ensures outs { result ≢ 0 → outs.new ≡ outs.old }
+    ensures number { IsNumberAt (held link.old) (held maps.old) result }
 {
     match maps.lent() {
-        None => Err(OTHER_VALUE),
-        Some(content) => lead_on(alloc, link, content, event),
+        None => OTHER_VALUE,
+        Some(content) => lead_on(alloc, link, content, event, outs),
     }
 }
 
-/// The same; an empty handle is filled with the outputs and the caller's number. Its box is allocated first.
-fn lead_to(
-    alloc: Global,
-    link: &mut Handle,
-    maps: &mut Handle,
-    outs: &mut Handle,
-    given: UserEvent<'_>,
-) -> u32
-    ensures serves { Serves (event_of given.entry.event) given.entry.user (held link.old)
-        (held maps.old) (held outs.old) result
-        (held link.new) (held maps.new) (held outs.new) }
-    ensures number { IsEventNumber (held link.old) (held maps.old) (held outs.old) result }
-{
-    let UserEvent { event, user } = given;
-    if !outs.is_empty() {
-        return NOT_EMPTY;
-    }
-    match Box::new(alloc, Content::Nothing) {
-        Err(_) => NO_MEMORY,
-        Ok(mut boxed) => match lead_over(alloc, link, maps, event) {
-            Err(number) => number,
-            Ok(list) => {
-                // (what stood there owns nothing)
-                forget(Box::replace(&mut boxed, Content::Outs(Outputs { user, list })));
-                outs.put(boxed);
-                0
-            }
-        },
-    }
-}
-
-/// The same in the place of the outputs that a content is. 92: it is something else.
+/// The same if a content is outputs, which those of the event replace, with the caller's number. 92: it is something
+/// else.
 fn lead_again(
     alloc: Global,
     link: &mut Handle,
@@ -219,15 +193,45 @@ fn lead_again(
 {
     let UserEvent { event, user } = given;
     match content {
-        Content::Outs(outs) => match lead_over(alloc, link, maps, event) {
-            Err(number) => number,
-            Ok(list) => {
-                *outs = Outputs { user, list };
-                0
+        Content::Outs(outs) => {
+            let number = lead_over(alloc, link, maps, event, &mut outs.list);
+            if number == 0 {
+                outs.user = user;
             }
-        },
+            number
+        }
         _ => NOT_EMPTY,
     }
+}
+
+/// The same; an empty handle is filled, by a box that is allocated first.
+fn lead_to(
+    alloc: Global,
+    link: &mut Handle,
+    maps: &mut Handle,
+    outs: &mut Handle,
+    given: UserEvent<'_>,
+) -> u32
+    ensures serves { Serves (event_of given.entry.event) given.entry.user (held link.old)
+        (held maps.old) (held outs.old) result
+        (held link.new) (held maps.new) (held outs.new) }
+    ensures number { IsEventNumber (held link.old) (held maps.old) (held outs.old) result }
+{
+    if !outs.is_empty() {
+        return NOT_EMPTY;
+    }
+    let none = Outputs {
+        user: given.user,
+        list: Vec::new(alloc),
+    };
+    let Ok(mut boxed) = Box::new(alloc, Content::Outs(none)) else {
+        return NO_MEMORY;
+    };
+    let number = lead_again(alloc, link, maps, &mut boxed, given);
+    if number == 0 {
+        outs.put(boxed);
+    }
+    number
 }
 
 /// The same of a handle that is empty or holds outputs.

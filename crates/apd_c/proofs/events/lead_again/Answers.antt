@@ -1,12 +1,22 @@
-use Rattle.std.proofs.Common.{rules}
+use Rattle.std.proofs.Common.{rules, refl}
 use Rattle.apd_c.proofs.events.lead_again.Goals as goal
 
-pub returns-in-Err-clause-serves : goal.returns-in-Err-clause-serves
-returns-in-Err-clause-serves c =
+pub returns-then-number-eq0-clause-serves : goal.returns-then-number-eq0-clause-serves
+returns-then-number-eq0-clause-serves c =
     record {
-      led = λ done. absurd (c.in-Err.ensures.err done);
-      named = λ done. absurd (c.in-Err.ensures.err done);
-      link = λ refused. c.in-Err.ensures.kept.0;
-      maps_stay = λ refused. c.in-Err.ensures.kept.1;
-      outs_stay = search rules;
+      led = λ done. c.lead_over-number.ensures.ok done;
+      named = λ done. refl;
+      link = λ refused. absurd (refused c.if-number-eq0.true);
+      maps_stay = λ refused. absurd (refused c.if-number-eq0.true);
+      outs_stay = λ refused. absurd (refused c.if-number-eq0.true);
+    }
+
+pub returns-else-number-eq0-clause-serves : goal.returns-else-number-eq0-clause-serves
+returns-else-number-eq0-clause-serves c =
+    record {
+      led = λ done. absurd (c.if-number-eq0.false done);
+      named = λ done. absurd (c.if-number-eq0.false done);
+      link = λ refused. (c.lead_over-number.ensures.kept refused).0;
+      maps_stay = λ refused. (c.lead_over-number.ensures.kept refused).1;
+      outs_stay = λ refused. rw (c.lead_over-number.ensures.outs refused) (search rules);
     }
