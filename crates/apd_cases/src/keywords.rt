@@ -73,7 +73,7 @@ fn frame<'a>(operands: &[&'a str]) -> Option<Line<'a>>
     let [digits] = operands else {
         return None;
     };
-    let text = HexText::new(digits)?;
+    let text = HexText::new(digits.as_bytes())?;
     Some(Line::Frame(text))
 }
 

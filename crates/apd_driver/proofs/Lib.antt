@@ -16,4 +16,5 @@ pub mod Packets
 pub mod Captured
 pub mod Recalled
 pub mod Kept
+pub mod Ahead
 pub mod Beginning

@@ -24,3 +24,4 @@ pub use Rattle.ap_books.specs.Counts
 pub mod Ethernet
 pub mod Capturing
 pub mod Captures
+pub mod Ahead

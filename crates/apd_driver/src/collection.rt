@@ -10,7 +10,7 @@ use crate::setting::{Setting, Staff};
 use std::alloc::AllocError;
 use std::sync::Wait;
 
-/// Sends a worker out to each desk.
+/// Leaves an order for a worker at each desk, which goes out when the desk is rung for.
 pub(crate) fn send_out<W: Serving + Drop, R: Wait>(
     setting: &Setting<'_, W, R>,
     workers: &mut Vec<W>,
@@ -23,8 +23,7 @@ pub(crate) fn send_out<W: Serving + Drop, R: Wait>(
         let Some(worker) = workers.pop() else {
             unreachable!()
         };
-        desk.orders
-            .put(setting.rt, Some(Order { worker, interval }));
+        desk.leave(setting.rt, Order { worker, interval });
     }
 }
 

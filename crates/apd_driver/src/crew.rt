@@ -8,7 +8,7 @@ mod serving;
 mod task;
 mod worker;
 
-pub use desk::{Desk, Order, Signs};
+pub use desk::{Desk, Order, Signs, ring};
 pub use hand::Done;
 pub use serving::Serving;
 pub use task::{Task, start_all};

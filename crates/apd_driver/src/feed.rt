@@ -11,7 +11,7 @@ ghost use Rattle.apd_driver.specs.Tells.{Tells};
 ghost use Rattle.apd_driver.specs.Intervals.{is_wait, after_wait};
 
 use crate::actions::{Action, Publication, WordUse, action_of};
-use crate::crew::{Serving, Signs};
+use crate::crew::{Serving, ring};
 use crate::operating::Operating;
 use crate::setting::Setting;
 use crate::{Report, Told};
@@ -24,9 +24,8 @@ use std::thread;
 
 /// Submits an event, again if a queue is full, until a worker is in trouble.
 fn put<W: Serving + Drop, O: Operating<W>, R: Wait>(
-    rt: &R,
+    setting: &Setting<'_, W, R>,
     operator: &mut O,
-    signs: &Signs,
     line: u64,
     event: Event,
 ) -> Result<(), AllocError>
@@ -34,11 +33,13 @@ fn put<W: Serving + Drop, O: Operating<W>, R: Wait>(
     ensures puts { OnOk result (PutsAll O.semantics line event
         (O.crew operator.old).work (O.crew operator.new).work) }
 {
+    let rt = setting.rt;
     let Err(mut waiting) = operator.submit(rt, line, event) else {
         return Ok(());
     };
+    ring(rt, setting.desks, 0);
     for _ in rt.forever() {
-        if signs.trouble.load(Ordering::SeqCst) != 0 {
+        if setting.signs.trouble.load(Ordering::SeqCst) != 0 {
             return Err(AllocError);
         }
         thread::yield_now();
@@ -166,7 +167,7 @@ fn follow<W: Serving + Drop, O: Operating<W>, R: Wait>(
     let line = numbered.line;
     match action_of(setting.alloc, &numbered.command) {
         Ok(Action::Submit(event)) => {
-            put(setting.rt, operator, setting.signs, line, event)?;
+            put(setting, operator, line, event)?;
             Ok(false)
         }
         Ok(Action::Publish(publication)) => {

@@ -24,9 +24,7 @@ pub(crate) struct Work<'a, W: Serving + Drop> {
 
 impl<'a, W: Serving + Drop, R: Wait> Task<R> for Work<'a, W> {
     fn run(&self, rt: &R, number: usize) {
-        if number < self.desks.len() {
-            work(rt, &self.desks[number], self.signs);
-        }
+        work(rt, self.desks, number, self.signs);
     }
 }
 

@@ -5,7 +5,10 @@ use Rattle.std.proofs.Common.{rules, tests, arith, ap, sym, ◌∙◌}
 use Rattle.std.specs.List.{AllPass, list_any, onto_first, slice_split}
 use Rattle.std.proofs.lemmas.List.Splits.{slice_split-cons_no, slice_split-cons_yes}
 use Rattle.std.proofs.lemmas.Bool.Decides.{nat_tests}
-use Rattle.std.proofs.lemmas.List.Elements.{All-head, All-tail}
+use Rattle.std.specs.Prelude.{IsUtf8, All}
+use Rattle.std.proofs.lemmas.List.Elements.{All-nil, All-append, All-cons, All-head, All-tail}
+use Rattle.std.proofs.lemmas.Str.{IsUtf8-from_ascii}
+use Rattle.std.proofs.lemmas.Str.Ascii.{IsAscii-from_all}
 use Rattle.hex.specs.Hex.{decode_of, is_hex_digit}
 use Rattle.hex.specs.declared.error.FromHexError.{FromHexError}
 use Rattle.bpf_regions.specs.declared.maps.Shape.{Shape}
@@ -71,3 +74,19 @@ plain_reads maps digits text some same ok =
       asks = ap (λ o. option_and_then (λ a. a) o) said;
       within = tt;
     }
+
+below_128 : (c : ℕ) → is_hex_digit c ≡ true → c < 128
+below_128 c h = grind (arith, nat_tests)
+
+abbrev is_low : ℕ → Type 0
+is_low c = c < 128
+
+all_low : (digits : List ℕ) → AllPass is_hex_digit digits → All is_low digits
+all_low [] h = All-nil is_low
+all_low (c ∷ cs) h = All-cons is_low c cs (below_128 c (All-head is_digit c cs h)) (all_low cs (All-tail is_digit c cs h))
+
+pub plain_utf8 : (digits : List ℕ) → IsOk (decode_of digits) → IsUtf8 (codes "frame " ++ digits)
+plain_utf8 digits ok =
+    let low = all_low digits (all_digits digits ok) in
+    IsUtf8-from_ascii (codes "frame " ++ digits) (IsAscii-from_all (codes "frame " ++ digits)
+    (All-append is_low (codes "frame ") digits (search rules) low))

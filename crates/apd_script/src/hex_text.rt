@@ -11,7 +11,7 @@ use std::alloc::{AllocError, Global};
 /// Hex digits of either case that spell bytes, two a byte.
 #[derive(Clone, Copy, Debug, PartialEq, Eq)]
 pub struct HexText<'a> {
-    pub digits: &'a str,
+    pub digits: &'a [u8],
     ghost hex: { IsOk (decode_of digits.now) },
 }
 
@@ -34,12 +34,12 @@ fn is_hex(digits: &[u8]) -> bool
 }
 
 impl<'a> HexText<'a> {
-    /// `None` if a character isn't a hex digit, or the number of digits is odd.
-    pub fn new(digits: &'a str) -> Option<Self>
+    /// `None` if a byte isn't a hex digit, or the number of digits is odd.
+    pub fn new(digits: &'a [u8]) -> Option<Self>
         ensures valid { IsSome result ↔ IsOk (decode_of digits.entry.now) }
         ensures same { IfSome result (λ text. text.digits.now ≡ digits.entry.now) }
     {
-        if is_hex(digits.as_bytes()) {
+        if is_hex(digits) {
             Some(HexText { digits })
         } else {
             None

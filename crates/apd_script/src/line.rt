@@ -1,6 +1,6 @@
 //! Reading a line of a script.
 
-ghost use Rattle.std.specs.Prelude.{◌≡◌, ◌<◌, ◌≤◌, ◌++◌, ◌↔◌, take, length, Some, None, IsOk, IfSome, IfNone, IfOk, OnErr};
+ghost use Rattle.std.specs.Prelude.{◌≡◌, ◌<◌, ◌≤◌, ◌++◌, ◌↔◌, take, length, Some, None, IsOk, IsSome, IsUtf8, IfSome, IfNone, IfOk, OnErr};
 ghost use Rattle.std.specs.List.{list_any};
 ghost use Rattle.apd_script.specs.Asked.{asked_by, NamesWord};
 ghost use Rattle.apd_script.specs.Words.{words, if_some, BeginsWith, texts, is_forbidden, begins_comment};
@@ -105,10 +105,11 @@ pub fn has_forbidden(line: &[u8]) -> bool
 }
 
 /// The command of a line that is `frame`, one space and hex digits, as most lines are. Of another line nothing is known.
-fn plain_frame<'a>(text: &'a str) -> Option<Command<'a>>
-    ensures reads { IfSome result (λ command. (maps : _) → Reads maps text.entry.now command) }
+fn plain_frame<'a>(line: &'a [u8]) -> Option<Command<'a>>
+    ensures reads { IfSome result (λ command. (maps : _) → Reads maps line.entry.now command) }
+    ensures utf8 { IsSome result → IsUtf8 line.entry.now }
 {
-    let digits = text.strip_prefix("frame ")?;
+    let digits = line.strip_prefix(b"frame ")?;
     if digits.is_empty() {
         return None;
     }
@@ -125,12 +126,12 @@ pub(crate) fn read_line<'a>(
     ensures asks { IfOk result (λ said. asked_by said ≡ line_asks shapes.now line.now) }
     ensures within { IfOk result (λ said. IfSome said (NamesWord shapes.now)) }
 {
+    if let Some(command) = plain_frame(line) {
+        return Ok(Some(command));
+    }
     let Ok(text) = str::from_utf8(line) else {
         return Err(Malformed);
     };
-    if let Some(command) = plain_frame(text) {
-        return Ok(Some(command));
-    }
     if has_forbidden(line) {
         return Err(Malformed);
     }

@@ -18,7 +18,7 @@ fn frame<'a>(operands: &[&'a str]) -> Option<Command<'a>>
     let [digits] = operands else {
         return None;
     };
-    let text = HexText::new(digits)?;
+    let text = HexText::new(digits.as_bytes())?;
     Some(Command::Frame(text))
 }
 

@@ -407,7 +407,7 @@ fn first_fault(shapes: &Shapes, form: Form, words: &[&str]) -> Option<(usize, Op
 /// Why an operand isn't allowed, if the command takes no map's words.
 fn word_fault(shapes: &Shapes, operand: Operand, word: &str) -> Option<OperandFault> {
     let (is_one, fault) = match operand {
-        Operand::Digits => (HexText::new(word).is_some(), digit_fault(word)),
+        Operand::Digits => (HexText::new(word.as_bytes()).is_some(), digit_fault(word)),
         Operand::Units => (
             number_below(0x1_0000_0000, word).is_some(),
             OperandFault::NoUnits,

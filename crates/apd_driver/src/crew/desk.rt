@@ -3,7 +3,9 @@
 use crate::crew::hand::Done;
 use crate::crew::serving::Serving;
 use crate::source::Post;
+use std::mem;
 use std::sync::atomic::AtomicU64;
+use std::sync::{Mutex, Wait};
 
 /// An order for a worker: to serve in the interval with this number.
 #[derive(Drop)]
@@ -12,9 +14,11 @@ pub struct Order<W: Serving + Drop> {
     pub interval: u64,
 }
 
-/// What the operator and one worker's thread share: orders, of which `None` is the last, and finished work.
+/// What the operator and one worker's thread share: an order for when the desk is rung for, orders, of which `None` is the
+/// last, and finished work.
 #[derive(Drop)]
 pub struct Desk<W: Serving + Drop> {
+    next: Mutex<Option<Order<W>>>,
     pub orders: Post<Option<Order<W>>>,
     pub reports: Post<Done<W>>,
 }
@@ -23,9 +27,27 @@ impl<W: Serving + Drop> Desk<W> {
     /// An empty desk.
     pub fn new() -> Desk<W> {
         Desk {
+            next: Mutex::new(None),
             orders: Post::new(),
             reports: Post::new(),
         }
+    }
+
+    /// Leaves an order for when the desk is rung for.
+    pub fn leave<R: Wait>(&self, rt: &R, order: Order<W>) {
+        *self.next.lock(rt) = Some(order);
+    }
+}
+
+/// Rings for the desk with this number: its thread gets the order that was left there. That thread rings for the next desk,
+/// so who rings for the first wakes one thread alone.
+pub fn ring<W: Serving + Drop, R: Wait>(rt: &R, desks: &[Desk<W>], number: usize) {
+    let Some(desk) = desks.get(number) else {
+        return;
+    };
+    let left = mem::replace(&mut *desk.next.lock(rt), None);
+    if left.is_some() {
+        desk.orders.put(rt, left);
     }
 }
 

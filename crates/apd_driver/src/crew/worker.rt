@@ -1,6 +1,6 @@
 //! A worker's thread.
 
-use crate::crew::desk::{Desk, Order, Signs};
+use crate::crew::desk::{Desk, Order, Signs, ring};
 use crate::crew::hand::Done;
 use crate::crew::serving::Serving;
 use std::sync::Wait;
@@ -45,12 +45,16 @@ fn serve_interval<W: Serving + Drop, R: Wait>(rt: &R, signs: &Signs, order: Orde
     unreachable!()
 }
 
-/// A worker's thread: an interval for each order, until the last.
-pub fn work<W: Serving + Drop, R: Wait>(rt: &R, desk: &Desk<W>, signs: &Signs) {
+/// The thread of the worker at the desk with this number: an interval for each order, until the last.
+pub fn work<W: Serving + Drop, R: Wait>(rt: &R, desks: &[Desk<W>], number: usize, signs: &Signs) {
+    let Some(desk) = desks.get(number) else {
+        return;
+    };
     for _ in rt.forever() {
         let Some(order) = desk.orders.take(rt) else {
             return;
         };
+        ring(rt, desks, number.saturating_add(1));
         let done = serve_interval(rt, signs, order);
         desk.reports.put(rt, done);
     }

@@ -38,7 +38,7 @@ fn at_the_link(rt: &impl Abort) -> [(u64, Command<'static>); 4] {
     let station = Address::new([2, 0, 0, 0, 0, 10]);
     let reason = Reason::new(65535);
     let tid = Tid::new(7).expect(rt, "a TID");
-    let digits = HexText::new("0aFF").expect(rt, "hex digits");
+    let digits = HexText::new(b"0aFF").expect(rt, "hex digits");
     [
         (3, Command::Frame(digits)),
         (4, Command::Tick(4294967295)),

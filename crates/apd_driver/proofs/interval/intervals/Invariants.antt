@@ -1,7 +1,6 @@
-use Rattle.std.proofs.Common.{◌≡◌, ◌≤◌, ◌-◌, [], length, take, vec_len}
+use Rattle.std.proofs.Common.{◌≡◌, ◌≤◌, ◌-◌, length, take, vec_len}
 use Rattle.apd_script.specs.Asked.{commands_of}
-use Rattle.apd_driver.specs.Captures.{KeepsLines}
-use Rattle.apd_driver.specs.Shows.{Shows}
+use Rattle.apd_driver.proofs.Ahead.{Ahead}
 use Rattle.apd_driver.proofs.interval.intervals.Given as goal
 
 abbrev pub invariant-intervals : goal.invariant-intervals
@@ -10,8 +9,7 @@ invariant-intervals g l =
       home : vec_len l.staff.workers ≡ length l.setting.desks.now;
       workers : (g.O.Operating.crew l.staff.operator).workers ≡ (g.O.Operating.crew l.fn.staff.operator).workers;
       within : l.line ≤ length l.commands;
-      shown : Shows l.setting.manner (g.P.Write.contents l.fn.writer) (g.O.Operating.crew l.fn.staff.operator) (commands_of (take l.line l.commands)) [] (g.P.Write.contents l.writer) (g.O.Operating.crew l.staff.operator) l.found.memory l.found.refused;
-      kept : KeepsLines l.setting.manner.form (commands_of (take l.line l.commands)) (g.P.Write.contents l.fn.writer) (g.P.Write.contents l.writer) (g.P.Printing.recorded l.fn.writer) (g.P.Printing.recorded l.writer);
+      ahead : Ahead l.setting.manner (commands_of (take l.line l.commands)) l.before.commands.now l.before.reports.items (g.P.Write.contents l.fn.writer) (g.P.Write.contents l.writer) (g.P.Printing.recorded l.fn.writer) (g.P.Printing.recorded l.writer) (g.O.Operating.crew l.fn.staff.operator) (g.O.Operating.crew l.staff.operator) l.before.found.memory l.before.found.refused l.found.memory l.found.refused;
     }
 
 abbrev pub decreases-intervals : goal.decreases-intervals
