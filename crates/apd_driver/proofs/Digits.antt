@@ -1,12 +1,8 @@
 -- Hex digits: of an address octet by octet, and of bytes piece by piece.
 use Rattle.std.proofs.Common.{◌≡◌, ◌<◌, ◌==◌, ◌&&◌, ◌/◌, ◌%◌, ◌++◌, ◌∙◌, ℕ, Bool, true, false, List, [], ◌∷◌, zero, suc, inl, inr, refl, sym, ap, arith, get_or, length, slice_index, take, drop}
-use Rattle.std.proofs.lemmas.Bool.{and_parts, cases_lt, eqb-true, ltb-true}
+use Rattle.std.proofs.lemmas.Bool.{and_parts, cases_lt, eqb-true}
 use Rattle.std.proofs.lemmas.List.{take-append-drop}
-use Rattle.std.proofs.lemmas.Str.Ascii.{IsAscii-from_reads}
-use Rattle.std.proofs.Math.Dec.{ltb}
 use Rattle.std.specs.Fmt.{digit_glyph}
-use Rattle.std.specs.Str.{IsAscii}
-use Rattle.hex.proofs.HexLemmas.{IsAscii-encode_with}
 use Rattle.hex.specs.Hex.{encode_lower, encode_with, lower_digits}
 use Rattle.mac_types.specs.Texts.{address_text}
 
@@ -38,16 +34,6 @@ unfolding encode_with
 in_one_piece [] h = refl
 in_one_piece (o ∷ octets) h =
     rw (digit (o / 16) (omega (arith, h 0)), digit (o % 16) (omega arith), in_one_piece octets (λ i. h (suc i))) refl
-
--- whether a digit is ASCII, which computes
-abbrev is_small : ℕ → Bool
-is_small d = ltb (get_or lower_digits d 0) 128
-
--- digits are ASCII
-pub are_ascii : (bytes : List ℕ) → IsAscii (encode_lower bytes)
-are_ascii bytes =
-    IsAscii-encode_with lower_digits bytes
-    (IsAscii-from_reads lower_digits 16 (omega arith) (λ d lt. ltb-true (get_or lower_digits d 0) 128 (held-at is_small 16 d refl lt)))
 
 -- the digits of two pieces, one after the other
 appended : (t xs ys : List ℕ) → encode_with t (xs ++ ys) ≡ encode_with t xs ++ encode_with t ys

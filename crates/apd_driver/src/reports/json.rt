@@ -5,11 +5,11 @@ ghost use Rattle.hex.specs.Hex.{encode_lower};
 ghost use Rattle.apd_driver.specs.Json.{addresses_members, drop_json, json_line, loaded_members, note_members, numbers_members, out_members, outs_json, send_members, sent_members, tid_value, up_members};
 
 use crate::reports::notice::{DropMembers, Dropped, Members, notice_of};
+use crate::reports::words::{append, append_shown};
 use ap_model::{Out, Up};
 use mac_types::Tid;
 use std::alloc::{AllocError, Global};
 use std::fmt;
-use std::fmt::Write;
 
 /// A TID, or `null`.
 #[derive(Clone, Copy)]
@@ -105,18 +105,23 @@ fn out_members(alloc: Global, out: &Out) -> Result<String, AllocError>
 }
 
 /// Appends the object of a line with these members.
-fn append_object(text: &mut String, line: u64, members: &str) -> Result<(), AllocError>
-    ensures ok { IfOk result (λ _. string_bytes text.new ≡ string_bytes text.old
+fn append_object(text: &mut Vec<u8>, line: u64, members: &str) -> Result<(), AllocError>
+    ensures ok { IfOk result (λ _. text.new.items ≡ text.old.items
         ++ json_line line members.now) }
 {
-    text.push_str("{\"line\":")?;
-    write!(text, "{line},{members}")?;
-    text.push_str("}\n")?;
+    append(text, "{\"line\":")?;
+    append_shown(text, format_args!("{line},{members}"))?;
+    append(text, "}\n")?;
     Ok(())
 }
 
-fn append_out_json(alloc: Global, text: &mut String, line: u64, out: &Out) -> Result<(), AllocError>
-    ensures ok { IfOk result (λ _. string_bytes text.new ≡ string_bytes text.old
+fn append_out_json(
+    alloc: Global,
+    text: &mut Vec<u8>,
+    line: u64,
+    out: &Out,
+) -> Result<(), AllocError>
+    ensures ok { IfOk result (λ _. text.new.items ≡ text.old.items
         ++ json_line line (out_members out.now)) }
 {
     let members = out_members(alloc, out)?;
@@ -126,11 +131,11 @@ fn append_out_json(alloc: Global, text: &mut String, line: u64, out: &Out) -> Re
 /// Appends an object for each output.
 pub(crate) fn append_outs_json(
     alloc: Global,
-    text: &mut String,
+    text: &mut Vec<u8>,
     line: u64,
     outs: &[Out],
 ) -> Result<(), AllocError>
-    ensures ok { IfOk result (λ _. string_bytes text.new ≡ string_bytes text.old
+    ensures ok { IfOk result (λ _. text.new.items ≡ text.old.items
         ++ outs_json line outs.now) }
 {
     for out in outs {
@@ -141,17 +146,17 @@ pub(crate) fn append_outs_json(
 
 /// Appends an object if data was dropped.
 pub(crate) fn append_drop_json(
-    text: &mut String,
+    text: &mut Vec<u8>,
     line: u64,
     dropped: Option<Dropped>,
 ) -> Result<(), AllocError>
-    ensures ok { IfOk result (λ _. string_bytes text.new ≡ string_bytes text.old
+    ensures ok { IfOk result (λ _. text.new.items ≡ text.old.items
         ++ drop_json line dropped) }
 {
     if let Some(dropped) = dropped {
-        text.push_str("{\"line\":")?;
-        write!(text, "{line},{}", DropMembers(dropped))?;
-        text.push_str("}\n")?;
+        append(text, "{\"line\":")?;
+        append_shown(text, format_args!("{line},{}", DropMembers(dropped)))?;
+        append(text, "}\n")?;
     }
     Ok(())
 }
@@ -170,15 +175,15 @@ impl fmt::Display for Loaded {
 
 /// Appends the object of a program that is in force.
 pub(crate) fn append_loaded_json(
-    text: &mut String,
+    text: &mut Vec<u8>,
     line: u64,
     budget: u32,
 ) -> Result<(), AllocError>
-    ensures ok { IfOk result (λ _. string_bytes text.new ≡ string_bytes text.old
+    ensures ok { IfOk result (λ _. text.new.items ≡ text.old.items
         ++ json_line line (loaded_members budget)) }
 {
-    text.push_str("{\"line\":")?;
-    write!(text, "{line},{}", Loaded(budget))?;
-    text.push_str("}\n")?;
+    append(text, "{\"line\":")?;
+    append_shown(text, format_args!("{line},{}", Loaded(budget)))?;
+    append(text, "}\n")?;
     Ok(())
 }

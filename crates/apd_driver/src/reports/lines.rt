@@ -9,71 +9,72 @@ ghost use Rattle.apd_driver.specs.Lines.{drop_text, json_text, line_of, notice_l
 use crate::reports::json::{append_drop_json, append_loaded_json, append_outs_json};
 use crate::reports::notice::{Dropped, Notice, notice_of};
 use crate::reports::report::{Form, Report, Style, Told};
-use crate::reports::words::{CounterWords, append_bytes, append_digits, append_number, append_tid};
+use crate::reports::words::{
+    CounterWords, append, append_bytes, append_digits, append_number, append_shown, append_tid,
+};
 use ap_books::Totals;
 use ap_model::{Out, Up};
 use std::alloc::{AllocError, Global};
 use std::fmt;
-use std::fmt::Write;
 
-fn append_send(text: &mut String, line: u64, frame: &[u8]) -> Result<(), AllocError>
-    ensures ok { IfOk result (λ _. string_bytes text.new ≡ string_bytes text.old
+fn append_send(text: &mut Vec<u8>, line: u64, frame: &[u8]) -> Result<(), AllocError>
+    ensures ok { IfOk result (λ _. text.new.items ≡ text.old.items
         ++ line_of line (out_words (Out.Send frame.now))) }
 {
     append_number(text, line)?;
-    text.push_str(" send ")?;
+    append(text, " send ")?;
     append_digits(text, frame)?;
-    text.push_str("\n")
+    append(text, "\n")
 }
 
 /// Appends how the line of data that is passed up begins: whom it comes from, and whom it goes to.
-fn append_addresses(text: &mut String, line: u64, up: &Up) -> Result<(), AllocError>
-    ensures ok { IfOk result (λ _. string_bytes text.new ≡ string_bytes text.old
+fn append_addresses(text: &mut Vec<u8>, line: u64, up: &Up) -> Result<(), AllocError>
+    ensures ok { IfOk result (λ _. text.new.items ≡ text.old.items
         ++ then (decimal line) (then (codes "up")
         (then (address_text up.now.source) (address_text up.now.destination)))) }
 {
     append_number(text, line)?;
-    text.push_str(" up ")?;
+    append(text, " up ")?;
     append_digits(text, up.source.octets().as_slice())?;
-    text.push_str(" ")?;
+    append(text, " ")?;
     append_digits(text, up.destination.octets().as_slice())
 }
 
 /// Appends the TID, the number and the mark of data that is passed up, with a space before each and one at the end.
-fn append_numbers(text: &mut String, up: &Up) -> Result<(), AllocError>
-    ensures ok { IfOk result (λ _. string_bytes text.new ≡ string_bytes text.old
+fn append_numbers(text: &mut Vec<u8>, up: &Up) -> Result<(), AllocError>
+    ensures ok { IfOk result (λ _. text.new.items ≡ text.old.items
         ++ 32 ∷ then (tid_word up.now.tid)
         (then (decimal up.now.number) (then (decimal up.now.mark) []))) }
 {
-    text.push_str(" ")?;
+    append(text, " ")?;
     append_tid(text, up.tid)?;
-    text.push_str(" ")?;
+    append(text, " ")?;
     append_number(text, up.number.number())?;
-    text.push_str(" ")?;
+    append(text, " ")?;
     append_number(text, up.mark)?;
-    text.push_str(" ")
+    append(text, " ")
 }
 
-fn append_up(text: &mut String, line: u64, up: &Up) -> Result<(), AllocError>
-    ensures ok { IfOk result (λ _. string_bytes text.new ≡ string_bytes text.old
+fn append_up(text: &mut Vec<u8>, line: u64, up: &Up) -> Result<(), AllocError>
+    ensures ok { IfOk result (λ _. text.new.items ≡ text.old.items
         ++ line_of line (out_words (Out.Up up.now))) }
 {
     append_addresses(text, line, up)?;
     append_numbers(text, up)?;
     append_bytes(text, up.body.bytes())?;
-    text.push_str("\n")
+    append(text, "\n")
 }
 
-fn append_note(text: &mut String, line: u64, note: u8) -> Result<(), AllocError>
-    ensures ok { IfOk result (λ _. string_bytes text.new ≡ string_bytes text.old
+fn append_note(text: &mut Vec<u8>, line: u64, note: u8) -> Result<(), AllocError>
+    ensures ok { IfOk result (λ _. text.new.items ≡ text.old.items
         ++ line_of line (out_words (Out.Note note))) }
 {
-    writeln!(text, "{line} note {note}")?;
+    append_shown(text, format_args!("{line} note {note}\n"))?;
     Ok(())
 }
 
-fn append_out(text: &mut String, line: u64, out: &Out) -> Result<(), AllocError>
-    ensures ok { IfOk result (λ _. string_bytes text.new ≡ string_bytes text.old
+fn append_out(text: &mut Vec<u8>, line: u64, out: &Out) -> Result<(), AllocError>
+    ensures ok { IfOk result (λ _. text.new.items ≡ text.old.items
         ++ line_of line (out_words out.now)) }
 {
     match out {
@@ -83,8 +84,8 @@ fn append_out(text: &mut String, line: u64, out: &Out) -> Result<(), AllocError>
     }
 }
 
-fn append_outs(text: &mut String, line: u64, outs: &[Out]) -> Result<(), AllocError>
-    ensures ok { IfOk result (λ _. string_bytes text.new ≡ string_bytes text.old
+fn append_outs(text: &mut Vec<u8>, line: u64, outs: &[Out]) -> Result<(), AllocError>
+    ensures ok { IfOk result (λ _. text.new.items ≡ text.old.items
         ++ outs_text line outs.now) }
 {
     for out in outs {
@@ -94,13 +95,13 @@ fn append_outs(text: &mut String, line: u64, outs: &[Out]) -> Result<(), AllocEr
 }
 
 /// Appends a notice, if there is one.
-fn append_notice(text: &mut String, line: u64, notice: Option<Notice>) -> Result<(), AllocError>
-    ensures ok { IfOk result (λ _. string_bytes text.new ≡ string_bytes text.old
+fn append_notice(text: &mut Vec<u8>, line: u64, notice: Option<Notice>) -> Result<(), AllocError>
+    ensures ok { IfOk result (λ _. text.new.items ≡ text.old.items
         ++ notice_line line notice) }
 {
     match notice {
         Some(notice) => {
-            writeln!(text, "{line} {notice}")?;
+            append_shown(text, format_args!("{line} {notice}\n"))?;
             Ok(())
         }
         None => Ok(()),
@@ -108,8 +109,8 @@ fn append_notice(text: &mut String, line: u64, notice: Option<Notice>) -> Result
 }
 
 /// Appends what an output means to a station, if it means something.
-fn append_meaning(text: &mut String, line: u64, out: &Out) -> Result<(), AllocError>
-    ensures ok { IfOk result (λ _. string_bytes text.new ≡ string_bytes text.old
+fn append_meaning(text: &mut Vec<u8>, line: u64, out: &Out) -> Result<(), AllocError>
+    ensures ok { IfOk result (λ _. text.new.items ≡ text.old.items
         ++ notice_text line out.now) }
 {
     match out {
@@ -120,8 +121,8 @@ fn append_meaning(text: &mut String, line: u64, out: &Out) -> Result<(), AllocEr
 }
 
 /// Appends the line of an output, and what it means.
-fn append_noticed(text: &mut String, line: u64, out: &Out) -> Result<(), AllocError>
-    ensures ok { IfOk result (λ _. string_bytes text.new ≡ string_bytes text.old
+fn append_noticed(text: &mut Vec<u8>, line: u64, out: &Out) -> Result<(), AllocError>
+    ensures ok { IfOk result (λ _. text.new.items ≡ text.old.items
         ++ noticed_out line out.now) }
 {
     append_out(text, line, out)?;
@@ -129,8 +130,8 @@ fn append_noticed(text: &mut String, line: u64, out: &Out) -> Result<(), AllocEr
     Ok(())
 }
 
-fn append_noticed_outs(text: &mut String, line: u64, outs: &[Out]) -> Result<(), AllocError>
-    ensures ok { IfOk result (λ _. string_bytes text.new ≡ string_bytes text.old
+fn append_noticed_outs(text: &mut Vec<u8>, line: u64, outs: &[Out]) -> Result<(), AllocError>
+    ensures ok { IfOk result (λ _. text.new.items ≡ text.old.items
         ++ noticed_outs line outs.now) }
 {
     for out in outs {
@@ -140,12 +141,12 @@ fn append_noticed_outs(text: &mut String, line: u64, outs: &[Out]) -> Result<(),
 }
 
 /// Appends a line if data was dropped.
-fn append_drop(text: &mut String, line: u64, dropped: Option<Dropped>) -> Result<(), AllocError>
-    ensures ok { IfOk result (λ _. string_bytes text.new ≡ string_bytes text.old
+fn append_drop(text: &mut Vec<u8>, line: u64, dropped: Option<Dropped>) -> Result<(), AllocError>
+    ensures ok { IfOk result (λ _. text.new.items ≡ text.old.items
         ++ drop_text line dropped) }
 {
     if let Some(dropped) = dropped {
-        writeln!(text, "{line} {dropped}")?;
+        append_shown(text, format_args!("{line} {dropped}\n"))?;
     }
     Ok(())
 }
@@ -173,8 +174,8 @@ impl fmt::Display for ToldWords<'_> {
 }
 
 /// Appends what became of a line, as lines.
-fn append_told(text: &mut String, line: u64, told: &Told) -> Result<(), AllocError>
-    ensures ok { IfOk result (λ _. string_bytes text.new ≡ string_bytes text.old
+fn append_told(text: &mut Vec<u8>, line: u64, told: &Told) -> Result<(), AllocError>
+    ensures ok { IfOk result (λ _. text.new.items ≡ text.old.items
         ++ told_text line told.now) }
 {
     match told {
@@ -187,15 +188,15 @@ fn append_told(text: &mut String, line: u64, told: &Told) -> Result<(), AllocErr
         | Told::Unreadable(_)
         | Told::Word { .. }
         | Told::Malformed { .. } => {
-            writeln!(text, "{line} {}", ToldWords(told))?;
+            append_shown(text, format_args!("{line} {}\n", ToldWords(told)))?;
             Ok(())
         }
     }
 }
 
 /// Appends what became of a line, with what its frames mean.
-fn append_told_noticed(text: &mut String, line: u64, told: &Told) -> Result<(), AllocError>
-    ensures ok { IfOk result (λ _. string_bytes text.new ≡ string_bytes text.old
+fn append_told_noticed(text: &mut Vec<u8>, line: u64, told: &Told) -> Result<(), AllocError>
+    ensures ok { IfOk result (λ _. text.new.items ≡ text.old.items
         ++ noticed_text line told.now) }
 {
     match told {
@@ -218,11 +219,11 @@ fn append_told_noticed(text: &mut String, line: u64, told: &Told) -> Result<(), 
 /// Appends what became of a line, as JSON if it has outputs or a program is in force.
 fn append_told_json(
     alloc: Global,
-    text: &mut String,
+    text: &mut Vec<u8>,
     line: u64,
     told: &Told,
 ) -> Result<(), AllocError>
-    ensures ok { IfOk result (λ _. string_bytes text.new ≡ string_bytes text.old
+    ensures ok { IfOk result (λ _. text.new.items ≡ text.old.items
         ++ json_text line told.now) }
 {
     match told {
@@ -248,11 +249,11 @@ fn append_told_json(
 /// Appends what became of a line, in a style.
 fn append_styled(
     alloc: Global,
-    text: &mut String,
+    text: &mut Vec<u8>,
     style: Style,
     report: &Report,
 ) -> Result<(), AllocError>
-    ensures ok { IfOk result (λ _. string_bytes text.new ≡ string_bytes text.old
+    ensures ok { IfOk result (λ _. text.new.items ≡ text.old.items
         ++ styled_text style report.now.line report.now.told) }
 {
     let line = report.line;
@@ -284,23 +285,23 @@ fn colour_in(colours: bool, told: &Told) -> Option<u8>
 }
 
 /// Appends what begins a text in a colour.
-fn append_beginning(text: &mut String, colour: Option<u8>) -> Result<(), AllocError>
-    ensures ok { IfOk result (λ _. string_bytes text.new ≡ string_bytes text.old
+fn append_beginning(text: &mut Vec<u8>, colour: Option<u8>) -> Result<(), AllocError>
+    ensures ok { IfOk result (λ _. text.new.items ≡ text.old.items
         ++ beginning colour) }
 {
     if let Some(colour) = colour {
-        write!(text, "\x1b[{colour}m")?;
+        append_shown(text, format_args!("\x1b[{colour}m"))?;
     }
     Ok(())
 }
 
 /// Appends what ends it.
-fn append_ending(text: &mut String, colour: Option<u8>) -> Result<(), AllocError>
-    ensures ok { IfOk result (λ _. string_bytes text.new ≡ string_bytes text.old
+fn append_ending(text: &mut Vec<u8>, colour: Option<u8>) -> Result<(), AllocError>
+    ensures ok { IfOk result (λ _. text.new.items ≡ text.old.items
         ++ ending colour) }
 {
     if colour.is_some() {
-        write!(text, "\x1b[{}m", 0)?;
+        append_shown(text, format_args!("\x1b[{}m", 0))?;
     }
     Ok(())
 }
@@ -308,11 +309,11 @@ fn append_ending(text: &mut String, colour: Option<u8>) -> Result<(), AllocError
 /// Appends the lines of a report.
 pub(crate) fn append_report(
     alloc: Global,
-    text: &mut String,
+    text: &mut Vec<u8>,
     form: Form,
     report: &Report,
 ) -> Result<(), AllocError>
-    ensures ok { IfOk result (λ _. string_bytes text.new ≡ string_bytes text.old
+    ensures ok { IfOk result (λ _. text.new.items ≡ text.old.items
         ++ report_text form report.now) }
 {
     let colour = colour_in(form.colours, &report.told);

@@ -1,6 +1,6 @@
 //! Writing lines to a writer.
 
-ghost use Rattle.std.specs.Prelude.{◌≡◌, ◌++◌, [], OnOk, string_bytes};
+ghost use Rattle.std.specs.Prelude.{◌≡◌, ◌++◌, [], OnOk};
 ghost use Rattle.std.specs.Io.KnownBytes.{Appends};
 ghost use Rattle.apd_files.specs.Beginning.{AppendsBeginning};
 ghost use Rattle.apd_driver.specs.Lines.{report_text, reports_text, totals_text};
@@ -68,15 +68,15 @@ impl From<Unwritten> for PrintFault {
 const ENOUGH: usize = 1 << 15;
 
 /// Writes the text, and empties it.
-fn flush<W: Printing>(text: &mut String, writer: &mut W) -> Result<(), Unwritten>
+fn flush<W: Printing>(text: &mut Vec<u8>, writer: &mut W) -> Result<(), Unwritten>
     ensures whole { OnOk result
-        (Appends (W.contents writer.old) (W.contents writer.new) (string_bytes text.old)) }
+        (Appends (W.contents writer.old) (W.contents writer.new) (text.old.items)) }
     ensures beginning { AppendsBeginning
-        (W.contents writer.old) (W.contents writer.new) (string_bytes text.old) }
-    ensures empty { OnOk result (string_bytes text.new ≡ []) }
+        (W.contents writer.old) (W.contents writer.new) (text.old.items) }
+    ensures empty { OnOk result (text.new.items ≡ []) }
     ensures kept { W.recorded writer.new ≡ W.recorded writer.old }
 {
-    writer.print(text.as_bytes())?;
+    writer.print(text.as_slice())?;
     text.clear();
     Ok(())
 }
@@ -84,15 +84,15 @@ fn flush<W: Printing>(text: &mut String, writer: &mut W) -> Result<(), Unwritten
 /// Appends the lines of a report to the text, and writes it if it is long.
 fn print_report<W: Printing>(
     alloc: Global,
-    text: &mut String,
+    text: &mut Vec<u8>,
     writer: &mut W,
     form: Form,
     report: &Report,
 ) -> Result<(), PrintFault>
     ensures moved { OnOk result (MovesOn (W.contents writer.old) (W.contents writer.new)
-        (string_bytes text.old ++ report_text form report.now) (string_bytes text.new)) }
+        (text.old.items ++ report_text form report.now) (text.new.items)) }
     ensures beginning { AppendsBeginning (W.contents writer.old) (W.contents writer.new)
-        (string_bytes text.old ++ report_text form report.now) }
+        (text.old.items ++ report_text form report.now) }
     ensures kept { W.recorded writer.new ≡ W.recorded writer.old }
 {
     append_report(alloc, text, form, report)?;
@@ -116,7 +116,7 @@ pub fn print_reports<W: Printing>(
         (W.contents writer.old) (W.contents writer.new) (reports_text form reports.now) }
     ensures kept { W.recorded writer.new ≡ W.recorded writer.old }
 {
-    let mut text = String::new(alloc);
+    let mut text = Vec::new(alloc);
     for report in reports {
         print_report(alloc, &mut text, writer, form, report)?;
     }

@@ -1,6 +1,6 @@
 //! Words of a line.
 
-ghost use Rattle.std.specs.Prelude.{◌≡◌, ◌≤◌, ◌++◌, OnOk, Some, length, string_bytes};
+ghost use Rattle.std.specs.Prelude.{◌≡◌, ◌≤◌, ◌++◌, OnOk, IfSome, Some, length};
 ghost use Rattle.hex.specs.Hex.{encode_lower};
 ghost use Rattle.mac_types.specs.Texts.{address_text};
 ghost use Rattle.apd_driver.specs.Words.{tid_word, bytes_word, counter_words};
@@ -10,45 +10,64 @@ use itoa::{Buffer, Integer};
 use mac_types::Tid;
 use std::alloc::AllocError;
 use std::fmt;
+use std::io::Write;
+
+/// Appends a word.
+pub(crate) fn append(text: &mut Vec<u8>, word: &str) -> Result<(), AllocError>
+    ensures ok { OnOk result (text.new.items ≡ text.old.items ++ word.now) }
+{
+    text.extend_from_slice(word.as_bytes())
+}
+
+/// Appends what a value is shown as.
+pub(crate) fn append_shown<D: fmt::Display + Drop>(
+    text: &mut Vec<u8>,
+    shown: D,
+) -> Result<(), AllocError>
+    ensures ok { OnOk result (IfSome (D.output shown)
+        (λ words. text.new.items ≡ text.old.items ++ words)) }
+{
+    match text.write_fmt(shown) {
+        Ok(()) => Ok(()),
+        Err(_) => Err(AllocError),
+    }
+}
 
 /// Appends a number in decimal digits, by a buffer on the stack.
-pub(crate) fn append_number<I: Integer>(text: &mut String, number: I) -> Result<(), AllocError>
-    ensures ok { OnOk result (string_bytes text.new ≡ string_bytes text.old ++ I.text number) }
+pub(crate) fn append_number<I: Integer>(text: &mut Vec<u8>, number: I) -> Result<(), AllocError>
+    ensures ok { OnOk result (text.new.items ≡ text.old.items ++ I.text number) }
 {
-    text.push_str(Buffer::new().format(number))
+    append(text, Buffer::new().format(number))
 }
 
 /// Appends a TID, or a dash.
-pub(crate) fn append_tid(text: &mut String, tid: Option<Tid>) -> Result<(), AllocError>
-    ensures ok { OnOk result (string_bytes text.new ≡ string_bytes text.old ++ tid_word tid) }
+pub(crate) fn append_tid(text: &mut Vec<u8>, tid: Option<Tid>) -> Result<(), AllocError>
+    ensures ok { OnOk result (text.new.items ≡ text.old.items ++ tid_word tid) }
 {
     match tid {
-        None => text.push_str("-"),
+        None => append(text, "-"),
         Some(tid) => append_number(text, tid.number()),
     }
 }
 
 /// Appends at most 64 bytes as hex digits, by a buffer on the stack.
-fn append_piece(text: &mut String, piece: &[u8]) -> Result<(), AllocError>
+fn append_piece(text: &mut Vec<u8>, piece: &[u8]) -> Result<(), AllocError>
     requires short { length piece.now ≤ 64 }
-    ensures ok { OnOk result (string_bytes text.new ≡ string_bytes text.old ++ encode_lower piece.now) }
+    ensures ok { OnOk result (text.new.items ≡ text.old.items ++ encode_lower piece.now) }
 {
     let mut buffer = [0u8; 128];
     let digits = &mut buffer[..2 * piece.len()];
     let Ok(()) = hex::encode_to_slice(piece, digits) else {
         unreachable!()
     };
-    let Ok(digits) = str::from_utf8(digits) else {
-        unreachable!()
-    };
-    text.push_str(digits)
+    text.extend_from_slice(digits)
 }
 
 /// Appends bytes as hex digits, which is how an address is written, too. It allocates nothing but the text, since a run
 /// prints three such words for each frame passed up.
-pub(crate) fn append_digits(text: &mut String, bytes: &[u8]) -> Result<(), AllocError>
-    ensures ok { OnOk result (string_bytes text.new ≡ string_bytes text.old ++ encode_lower bytes.now) }
-    ensures octets { OnOk result (string_bytes text.new ≡ string_bytes text.old ++ address_text bytes.now) }
+pub(crate) fn append_digits(text: &mut Vec<u8>, bytes: &[u8]) -> Result<(), AllocError>
+    ensures ok { OnOk result (text.new.items ≡ text.old.items ++ encode_lower bytes.now) }
+    ensures octets { OnOk result (text.new.items ≡ text.old.items ++ address_text bytes.now) }
 {
     let mut rest = bytes;
     while !rest.is_empty() {
@@ -60,11 +79,11 @@ pub(crate) fn append_digits(text: &mut String, bytes: &[u8]) -> Result<(), Alloc
 }
 
 /// Appends bytes as hex digits, or a dash.
-pub(crate) fn append_bytes(text: &mut String, bytes: &[u8]) -> Result<(), AllocError>
-    ensures ok { OnOk result (string_bytes text.new ≡ string_bytes text.old ++ bytes_word bytes.now) }
+pub(crate) fn append_bytes(text: &mut Vec<u8>, bytes: &[u8]) -> Result<(), AllocError>
+    ensures ok { OnOk result (text.new.items ≡ text.old.items ++ bytes_word bytes.now) }
 {
     if bytes.is_empty() {
-        return text.push_str("-");
+        return append(text, "-");
     }
     append_digits(text, bytes)
 }

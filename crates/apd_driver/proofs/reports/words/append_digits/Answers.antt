@@ -1,4 +1,4 @@
-use Rattle.std.proofs.Common.{◌++◌, ◌∙◌, sym, ap, string_bytes, length, arith}
+use Rattle.std.proofs.Common.{◌++◌, ◌∙◌, sym, ap, length, arith}
 use Rattle.std.proofs.lemmas.Bool.{eqb-true}
 use Rattle.std.proofs.lemmas.List.{append_assoc, append-nil}
 use Rattle.apd_driver.proofs.Digits.{in_one_piece, in_two, of_none}
@@ -12,8 +12,8 @@ loop-rest-preserved c =
 pub returns : goal.returns
 returns c =
     let none = of_none c.loop-rest.rest.now (eqb-true (length c.loop-rest.rest.now) 0 (sym c.loop-rest-test.ensures)) in
-    let appended = sym (append-nil (string_bytes c.loop-rest.text))
-    ∙ ap (λ digits. string_bytes c.loop-rest.text ++ digits) (sym none)
+    let appended = sym (append-nil c.loop-rest.text.items)
+    ∙ ap (λ digits. c.loop-rest.text.items ++ digits) (sym none)
     ∙ c.loop-rest.invariant in
     record {
       ok = appended;
