@@ -1,6 +1,6 @@
 //! Events at access points that C keeps.
 
-ghost use Rattle.std.specs.Prelude.{◌≡◌, ◌≢◌, Some, None, IfOk, IfErr, OnErr};
+ghost use Rattle.std.specs.Prelude.{◌≡◌, ◌≢◌, ◌≤◌, ◌↔◌, Some, None, IsSome, IfSome, IfOk, IfErr, OnErr, length};
 ghost use Rattle.std.specs.Option.{option_map};
 ghost use Rattle.bpf_helpers.specs.Hooked.{IsFitting, shapes_of};
 ghost use Rattle.ap_model.specs.declared.event.Event.TheVariants as event;
@@ -40,6 +40,21 @@ pub(crate) enum Happening<'a> {
 struct UserEvent<'a> {
     event: Happening<'a>,
     user: u64,
+}
+
+/// The event of a frame, which C numbers; `None` if it has more than 2400 bytes.
+fn frame_event<'a>(bytes: &'a [u8], user: u64) -> Option<UserEvent<'a>>
+    ensures frame { IfSome result (λ given. event_of given.event ≡ event.Frame bytes.entry.now) }
+    ensures user { IfSome result (λ given. given.user ≡ user) }
+    ensures fits { IsSome result ↔ (length bytes.entry.now ≤ 2400) }
+{
+    if bytes.len() > 2400 {
+        return None;
+    }
+    Some(UserEvent {
+        event: Happening::Frame(bytes),
+        user,
+    })
 }
 
 /// Gives an event to an access point, as `AccessPoint::handle` says.
@@ -274,12 +289,8 @@ pub extern "C" fn apd_c_link_frame(
     ensures number { IsFrameNumber bytes.now (held link.old) (held maps.old) (held outs.old)
         result }
 {
-    if bytes.len() > 2400 {
+    let Some(given) = frame_event(bytes, user) else {
         return OUT_OF_LIMITS;
-    }
-    let given = UserEvent {
-        event: Happening::Frame(bytes),
-        user,
     };
     lead_to(alloc, link, maps, outs, given)
 }
@@ -301,12 +312,8 @@ pub extern "C" fn apd_c_link_frame_into(
     ensures number { IsIntoNumber bytes.now (held link.old) (held maps.old) (held outs.old)
         result }
 {
-    if bytes.len() > 2400 {
+    let Some(given) = frame_event(bytes, user) else {
         return OUT_OF_LIMITS;
-    }
-    let given = UserEvent {
-        event: Happening::Frame(bytes),
-        user,
     };
     lead_into(alloc, link, maps, outs, given)
 }

@@ -18,7 +18,7 @@ use std::marker::Model;
 /// What a handle may hold.
 #[derive(Drop)]
 pub enum Content {
-    /// The content of an empty handle. No full handle holds it.
+    /// The content of an empty handle, and of a box whose content was taken out. No full handle holds it.
     Nothing,
     /// An admitted program. Programs, maps and links are boxed, so that a `Content` stays small.
     Code(Box<Accepted>),
