@@ -3,6 +3,7 @@
 //! Main calls: `start_all`, and `work` for each thread, which sleeps until `ring` wakes the first and each wakes the next. A
 //! worker goes out, and comes back with what became of its events. It goes by its desk: no worker is lost, and none is out
 //! twice. No contract says that a worker runs, or comes back.
+mod bell;
 mod desk;
 mod hand;
 mod serving;

@@ -20,9 +20,8 @@ use apd_script::{MalformedLine, Numbered};
 use std::alloc::{AllocError, Global};
 use std::sync::Wait;
 use std::sync::atomic::Ordering;
-use std::thread;
 
-/// Submits an event, again if a queue is full, until a worker is in trouble.
+/// Submits an event, again if a queue is full and a worker has served, until a worker is in trouble.
 fn put<W: Serving + Drop, O: Operating<W>, R: Wait>(
     setting: &Setting<'_, W, R>,
     operator: &mut O,
@@ -33,20 +32,22 @@ fn put<W: Serving + Drop, O: Operating<W>, R: Wait>(
     ensures puts { OnOk result (PutsAll O.semantics line event
         (O.crew operator.old).work (O.crew operator.new).work) }
 {
-    let rt = setting.rt;
+    let Setting { rt, signs, .. } = *setting;
     let Err(mut waiting) = operator.submit(rt, line, event) else {
         return Ok(());
     };
     ring(rt, setting.desks, 0);
     for _ in rt.forever() {
-        if setting.signs.trouble.load(Ordering::SeqCst) != 0 {
+        let strokes = signs.serving.strokes();
+        if signs.trouble.load(Ordering::SeqCst) != 0 {
             return Err(AllocError);
         }
-        thread::yield_now();
+        signs.feeding.strike();
         let Err(still) = operator.go_on(rt, line, waiting) else {
             return Ok(());
         };
         waiting = still;
+        signs.serving.sleep(rt, strokes);
     }
     unreachable!()
 }

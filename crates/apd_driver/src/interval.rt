@@ -177,6 +177,7 @@ fn set_out<W: Serving + Drop, O: Operating<W> + Drop, R: Wait>(
         &mut told,
     );
     setting.signs.closed.store(from.number, Ordering::SeqCst);
+    setting.signs.feeding.strike();
     ring(setting.rt, setting.desks, 0);
     let next = fed?;
     Ok(Fed { next, told })

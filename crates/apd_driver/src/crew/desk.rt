@@ -1,5 +1,6 @@
 //! What the operator and the workers share.
 
+use crate::crew::bell::Bell;
 use crate::crew::hand::Done;
 use crate::crew::serving::Serving;
 use crate::source::Post;
@@ -58,14 +59,20 @@ pub struct Signs {
     pub closed: AtomicU64,
     /// Not 0 if an allocation failed for a worker's list.
     pub trouble: AtomicU64,
+    /// Struck if a queue is full, and if an interval is closed: idle workers sleep for it.
+    pub feeding: Bell,
+    /// Struck if a worker has served: an operator that found a queue full sleeps for it.
+    pub serving: Bell,
 }
 
 impl Signs {
-    /// No interval is closed, and no worker is in trouble.
+    /// No interval is closed, no worker is in trouble, and no bell was struck.
     pub fn new() -> Signs {
         Signs {
             closed: AtomicU64::new(0),
             trouble: AtomicU64::new(0),
+            feeding: Bell::new(),
+            serving: Bell::new(),
         }
     }
 }

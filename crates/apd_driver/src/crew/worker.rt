@@ -5,26 +5,30 @@ use crate::crew::hand::Done;
 use crate::crew::serving::Serving;
 use std::sync::Wait;
 use std::sync::atomic::Ordering;
-use std::thread;
 
-/// Serves the events in the queue. True if the interval is over: it was closed beforehand, or an allocation failed.
+/// Serves the events in the queue. If there are none, it sleeps until a queue is full or an interval is closed. True if the
+/// interval is over: it was closed beforehand, or an allocation failed.
 fn turn<W: Serving + Drop, R: Wait>(
     rt: &R,
     signs: &Signs,
     done: &mut Done<W>,
     interval: u64,
 ) -> bool {
+    let strokes = signs.feeding.strokes();
     let closed = signs.closed.load(Ordering::SeqCst) >= interval;
     match done.worker.serve(rt) {
         Ok(handled) => {
-            if !closed && !handled {
-                thread::yield_now();
+            if handled {
+                signs.serving.strike();
+            } else if !closed {
+                signs.feeding.sleep(rt, strokes);
             }
             closed
         }
         Err(_) => {
             done.refused = true;
             signs.trouble.store(1, Ordering::SeqCst);
+            signs.serving.strike();
             true
         }
     }
