@@ -39,7 +39,7 @@ pub(crate) struct Ran<W: Serving + Drop, O: Operating<W> + Drop, P: Drop> {
 /// Tells each worker's thread to end.
 fn end_all<W: Serving + Drop, R: Wait>(setting: &Setting<'_, W, R>) {
     for desk in setting.desks {
-        desk.orders.put(setting.rt, None);
+        desk.end(setting.rt);
     }
 }
 

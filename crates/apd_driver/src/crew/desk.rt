@@ -38,6 +38,13 @@ impl<W: Serving + Drop> Desk<W> {
     pub fn leave<R: Wait>(&self, rt: &R, order: Order<W>) {
         *self.next.lock(rt) = Some(order);
     }
+
+    /// Gives its thread the last order. One that was left, or that the thread hasn't taken, is dropped.
+    pub fn end<R: Wait>(&self, rt: &R) {
+        let mut next = self.next.lock(rt);
+        *next = None;
+        self.orders.put(rt, None);
+    }
 }
 
 /// Rings for the desk with this number: its thread gets the order that was left there. That thread rings for the next desk,
@@ -46,9 +53,10 @@ pub fn ring<W: Serving + Drop, R: Wait>(rt: &R, desks: &[Desk<W>], number: usize
     let Some(desk) = desks.get(number) else {
         return;
     };
-    let left = mem::replace(&mut *desk.next.lock(rt), None);
-    if left.is_some() {
-        desk.orders.put(rt, left);
+    // Under this lock, so that no order follows the last one, which `end` gives.
+    let mut next = desk.next.lock(rt);
+    if let Some(order) = mem::replace(&mut *next, None) {
+        desk.orders.put(rt, Some(order));
     }
 }
 
